@@ -1,0 +1,120 @@
+-- Demand 3 of every well-formed net.
+use Prim.Native.Nat.{ℕ, _≤_, _%_}
+use native.Mathlib.Omega.{arith}
+use mathlib.Core.List.{List, []}
+use mathlib.Core.Path.{_≡_, refl, sym, _∙_, ap, ap₂, subst}
+use mathlib.Core.Logic.{_≢_}
+use lib.ListN.{getD, length, replicate, length-replicate}
+use lib.Dec.{T}
+use Rattle.topology.specs.Check.{verdict}
+use Rattle.topology.specs.Net.{Net, WellFormed, netOf}
+use Rattle.topology.proofs.Laws.{accepted-well-formed}
+use Rattle.planner.specs.Routes.{legalLength, far}
+use Rattle.planner.specs.Table.{entry, destination}
+use Rattle.rehearsal.specs.Machine.{last, answers, tally, every}
+use Rattle.rehearsal.specs.Moves.{entries, soundAt, hopsLeft, Packet, Cell, none, packet, Full, addressOf, nothing, Order, advances, moving, rehearsal, Still, packets, each}
+use Rattle.rehearsal.specs.Follow.{Whereabouts, inChannel, deliveredAt}
+use Rattle.rehearsal.specs.Drains.{Sound, goesTo, Drained, Drains}
+use Rattle.rehearsal.proofs.Tables as tables
+use Rattle.rehearsal.proofs.Figures.{counts, draining}
+use Rattle.rehearsal.proofs.Ranks.{rank}
+use Rattle.rehearsal.proofs.Ours.{table-laws, exact}
+use Rattle.rehearsal.proofs.Held.{none-there, sum-empty}
+use Rattle.rehearsal.proofs.Sound.{Facts}
+use Rattle.rehearsal.proofs.Soundness.{facts, sound-held}
+use Rattle.rehearsal.proofs.Progress.{progress}
+use Rattle.rehearsal.proofs.Spending.{last-length, sound-last, spent, left-net, gone}
+use Rattle.rehearsal.proofs.Identity.{At, keeps-address}
+use Rattle.rehearsal.proofs.Apart.{stay-apart}
+use Rattle.rehearsal.proofs.Origin.{each-home, delivery, empty-not, full-if}
+
+bare : (ch : ℕ) → getD nothing ch none ≡ none
+unfolding nothing
+bare ch = none-there 768 ch
+
+size : length nothing ≡ 768
+unfolding nothing
+size = length-replicate {A = Cell} 768 none
+
+all-empty : (k : ℕ) → k ≡ 768 → replicate k none ≡ nothing
+unfolding nothing
+all-empty k h = rw h
+
+no-packets : packets nothing ≡ 0
+unfolding nothing
+no-packets = sum-empty none each (λ ch. refl) 768
+
+-- the packet in a cell
+whole : (x : Cell) → Full x → (pk : Packet) × (x ≡ packet pk) × (pk .address ≡ addressOf x)
+whole none f = absurd f
+whole (packet pk) f = (pk, refl, refl)
+
+module _ (n : Net) (w : WellFormed n) where
+  abbrev Fit : ℕ → ℕ → Type 0
+  Fit ch a = T (soundAt n ch a)
+
+  law : tables.Draining n (entries n) Fit (rank n)
+  law = draining n (entry n) (legalLength n) (far n) w (table-laws n w)
+
+  hops : tables.Counts n (entries n) Fit (hopsLeft n)
+  unfolding hopsLeft
+  hops = counts n (entry n) (legalLength n) (far n) w (table-laws n w) (exact n w)
+
+  known : (held : List Cell) → Sound n held → Facts n Fit held
+  known held s = facts n held (rw (s .0) (w .few-channels)) (s .1)
+
+  sound : (held : List Cell) → length held ≡ 768 → Facts n Fit held → Sound n held
+  sound held e f = (e, sound-held n held f)
+
+  start : Sound n nothing
+  start = sound nothing size (record {
+    room = rw size (w .few-channels);
+    each = λ ch. rw (bare ch) tt;
+  })
+
+  stays : (held : List Cell) (os : List Order) → Sound n held → Sound n (last (rehearsal n) held os)
+  unfolding rehearsal
+  stays held os s =
+      sound (last (moving n (entries n)) held os) (last-length n (entries n) Fit (rank n) law held os ∙ s .0)
+      (sound-last n (entries n) Fit (rank n) law held os (known held s))
+
+  -- in an empty net a packet that is where it is said to be is at home
+  home : (a : ℕ) (w : Whereabouts) → At n a nothing w → w ≡ deliveredAt (destination n a) (a % 16)
+  home a (inChannel c) at = absurd (empty-not (getD nothing c none) (bare c) (full-if _ (at .1)))
+  home a (deliveredAt t p) at = ap₂ deliveredAt (at .0) (at .1)
+
+  done : (held : List Cell) (os : List Order) → Sound n held → T (every advances os) → Still (rehearsal n) (last (rehearsal n) held os) → Drained n held os
+  unfolding rehearsal
+  done held os s adv still =
+      let f = known held s in
+      let d = gone n (entries n) Fit (rank n) law (hopsLeft n) hops held os f adv still in
+      let empty : last (moving n (entries n)) held os ≡ nothing = d .1 ∙ all-empty _ (s .0) in
+      let zero-left : packets (last (moving n (entries n)) held os) ≡ 0 = rw empty no-packets in
+      let outs = left-net n (entries n) Fit (rank n) law held os f adv in
+      record {
+        exactly = d .0;
+        once-each = omega arith;
+        empty = empty;
+        each-home = λ ch full.
+            let p = whole (getD held ch none) full in
+            home _ (goesTo n held os ch) (rw empty at (keeps-address n (entries n) Fit (rank n) law _ held os f (inChannel ch) p));
+      }
+
+  pub drains : Drains n
+  unfolding rehearsal
+  drains = record {
+    starts-sound = start;
+    stays-sound = stays;
+    goes-on = λ held s ch full. progress n (entries n) Fit (rank n) law held (known held s) ch full;
+    counts = λ held os s adv. spent n (entries n) Fit (rank n) law (hopsLeft n) held os (known held s) adv hops;
+    drained = done;
+    apart = λ held os s c d fc fd ne.
+        let p = whole (getD held c none) fc in
+        let q = whole (getD held d none) fd in
+        stay-apart n (entries n) Fit (rank n) law _ _ held os (known held s) (inChannel c) (inChannel d) p q (λ e p q. ne (cc));
+    delivery = λ os ch p q h. delivery n (entries n) Fit (rank n) law nothing os (known nothing start) bare ch p q h;
+    placed-home = λ os done a w e. each-home n (entries n) Fit (rank n) law (known nothing start) e (λ ch. rw done (bare ch));
+  }
+
+pub demand-3 : (d : List ℕ) → verdict d .number ≡ 0 → Drains (netOf d)
+demand-3 d e = drains (netOf d) (accepted-well-formed d e)

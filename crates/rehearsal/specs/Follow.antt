@@ -1,0 +1,39 @@
+-- Where one packet's head is, as whoever sees the orders and their answers can tell.
+use Prim.Native.Nat.{ℕ}
+use mathlib.Core.List.{List, [], _∷_}
+use mathlib.Core.Bool.{cond}
+use mathlib.Core.Path.{_≡_}
+use lib.Dec.{eqb}
+use Rattle.topology.specs.Net.{Net, target}
+use Rattle.rehearsal.specs.Machine.{Machine, answers}
+use Rattle.rehearsal.specs.Moves.{Cell, Answer, moved, delivered, refused, Order, placing, advancing}
+
+-- in a channel, or delivered at a switch and port
+pub data Whereabouts : Type 0 where
+  inChannel : ℕ → Whereabouts
+  deliveredAt : ℕ → ℕ → Whereabouts
+
+-- not both in one channel
+abbrev pub Apart : Whereabouts → Whereabouts → Type 0
+Apart w v = (e : ℕ) → w ≡ inChannel e → v ≡ inChannel e → ⊥
+
+module _ (n : Net) where
+  -- where a packet's head is after an order so answered
+  abbrev pub hop : Whereabouts → Answer → Order → Whereabouts
+  hop (deliveredAt s p) x o = deliveredAt s p
+  hop (inChannel c) (refused r) o = inChannel c
+  hop (inChannel c) (moved d) (placing k a p) = inChannel c
+  hop (inChannel c) (moved d) (advancing ch p) = cond (eqb c ch) (inChannel d) (inChannel c)
+  hop (inChannel c) (delivered q) (placing k a p) = inChannel c
+  hop (inChannel c) (delivered q) (advancing ch p) = cond (eqb c ch) (deliveredAt (target n ch) q) (inChannel c)
+
+  unfoldable pub followed : Whereabouts → List Order → List Answer → Whereabouts
+  followed w [] xs = w
+  followed w (o ∷ os) [] = w
+  followed w (o ∷ os) (x ∷ xs) = followed (hop w x o) os xs
+
+-- Of a run from held over os: a packet that one of its orders placed with address a is at w after it.
+pub data Entered (n : Net) (m : Machine (List Cell) Order Answer) : List Cell → List Order → ℕ → Whereabouts → Type 0 where
+  now : {held : List Cell} {os : List Order} {k a p c : ℕ} → m .answer held (placing k a p) ≡ moved c
+      → Entered n m held (placing k a p ∷ os) a (followed n (inChannel c) os (answers m (m .next held (placing k a p)) os))
+  later : {held : List Cell} {o : Order} {os : List Order} {a : ℕ} {w : Whereabouts} → Entered n m (m .next held o) os a w → Entered n m held (o ∷ os) a w
