@@ -6,7 +6,8 @@ use native.Mathlib.Omega.{arith}
 use lib.ListN.{getD, length}
 use lib.Dec.{eqb, ltb, lit<}
 use Rattle.topology.specs.Format.{Bytes, switchCount, cableCount, cableAt}
-use Rattle.topology.specs.Edit.{find, those, header, switchRecord, cableRecord, records, part, fall, clear, retired, pulled}
+use Rattle.topology.specs.Count.{those}
+use Rattle.topology.specs.Edit.{find, header, switchRecord, cableRecord, records, part, fall, clear, retired, pulled}
 use Rattle.topology.proofs.Tests.{choose-cond}
 use Rattle.topology.proofs.Records.{those-listed}
 use Rattle.topology.proofs.Kept.{find-is}

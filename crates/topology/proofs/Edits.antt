@@ -8,9 +8,9 @@ use native.Mathlib.Nat.{zero-add}
 use native.Mathlib.Omega.{arith}
 use lib.ListN.{getD, length}
 use lib.Dec.{T, eqb, T-not}
-use Rattle.topology.specs.Count.{either}
+use Rattle.topology.specs.Count.{either, those}
 use Rattle.topology.specs.Format.{switchCount, cableCount, endSwitch}
-use Rattle.topology.specs.Edit.{those, part, fall, clear, otherSwitches, retired, pulled}
+use Rattle.topology.specs.Edit.{part, fall, clear, otherSwitches, retired, pulled}
 use Rattle.topology.proofs.Tests.{split, neither, ne→neqb, eq→eqb}
 use Rattle.topology.specs.Accepted.{Accepted, Switch, End, Cable}
 use Rattle.topology.proofs.Records.{Listed, those-listed, Found, those-found, all-length, others-length, fall-length}
@@ -116,7 +116,7 @@ module _ (d : List ℕ) (a : Accepted d) where
           let s = part-switches d ss cs newPosition in
           let c = part-cables d ss cs newPosition in
           record {
-            mark = λ t. t;
+            marked = record { letter-u = refl; letter-d = refl; letter-r = refl };
             version = refl;
             some-switch = omega (arith, s, some);
             few-switches = omega (arith, s, sl .few, a .few-switches);

@@ -8,9 +8,9 @@ use native.Mathlib.Nat.{zero-add}
 use native.Mathlib.Omega.{arith}
 use lib.ListN.{getD, length}
 use lib.Dec.{T, eqb, eqb→eq}
-use Rattle.topology.specs.Count.{either}
-use Rattle.topology.specs.Format.{switchCount, cableCount, uidAt, hostsAt, endSwitch, endPort, endsAt}
-use Rattle.topology.specs.Edit.{find, cableOf, those, part, fall, clear, otherSwitches, clearCables, otherCables, retired, pulled}
+use Rattle.topology.specs.Count.{either, those}
+use Rattle.topology.specs.Format.{switchCount, cableCount, uidAt, hostsAt, endSwitch, endPort, EndOf, endsAt}
+use Rattle.topology.specs.Edit.{find, cableOf, part, fall, clear, otherSwitches, clearCables, otherCables, retired, pulled}
 use Rattle.topology.proofs.Tests.{both-T, T-both, either-T, T-either, ne→neqb, eq→eqb}
 use Rattle.topology.proofs.Searches.{least-finds, least-first}
 use Rattle.topology.proofs.Records.{Found, those-found, all-length, others-length, fall-length}
@@ -28,10 +28,6 @@ module _ (d : List ℕ) where
     λ h. (find d u, h, find-is u h),
     λ r. omega (arith, r .1, least-first (λ i. eqb (uidAt d i) u) (switchCount d) (r .0) (eq→eqb (uidAt d (r .0)) u (r .2))),
   )
-
-  -- end e is one of cable c
-  abbrev pub EndOf : ℕ → ℕ → Type 0
-  EndOf c e = (e ≡ 2 * c) ⊎ (e ≡ 2 * c + 1)
 
   pub cable-of : (i p : ℕ) → cableOf d i p < cableCount d → (e : ℕ) × EndOf (cableOf d i p) e × (endSwitch d e ≡ i) × (endPort d e ≡ p)
   unfolding cableOf

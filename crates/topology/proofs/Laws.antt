@@ -7,17 +7,17 @@ use Prim.Native.Nat.{ℕ, suc, _+_, _*_, _≤_, _<_}
 use native.Mathlib.Omega.{arith}
 use lib.ListN.{length}
 use lib.Dec.{T}
-use Rattle.topology.specs.Count.{bit}
-use Rattle.topology.specs.Format.{Bytes, switchCount, cableCount, uidAt, hostsAt, endSwitch, endPort}
+use Rattle.topology.specs.Count.{bit, those}
+use Rattle.topology.specs.Format.{Bytes, switchCount, cableCount, uidAt, hostsAt, endSwitch, endPort, EndOf}
 use Rattle.topology.specs.Check.{verdict}
 use Rattle.topology.specs.Net.{WellFormed, netOf, numberAt}
-use Rattle.topology.specs.Edit.{find, cableOf, those, fall, clear, clearCables, retired, pulled}
+use Rattle.topology.specs.Edit.{find, cableOf, fall, clear, clearCables, retired, pulled}
 use Rattle.topology.specs.Accepted.{Accepted, End}
 use Rattle.topology.proofs.Verdicts.{verdict-rule}
 use Rattle.topology.proofs.Soundness.{well-formed, uids-differ, numbers-grow, numbers-high}
 use Rattle.topology.proofs.Edits.{retired-ok, pulled-ok}
 use Rattle.topology.proofs.Bytes.{retired-bytes, pulled-bytes, found-narrow}
-use Rattle.topology.proofs.Kept.{EndOf, find-is, find-rule, cable-of, of-cable, retired-counts, retired-length, retired-switch, retired-cable, pulled-counts, pulled-length, pulled-switch, pulled-cable}
+use Rattle.topology.proofs.Kept.{find-is, find-rule, cable-of, of-cable, retired-counts, retired-length, retired-switch, retired-cable, pulled-counts, pulled-length, pulled-switch, pulled-cable}
 
 -- checking returns 0 exactly where no refusal applies
 pub accepted-exactly : (d : List ℕ) → (verdict d .number ≡ 0) ↔ Accepted d
@@ -37,8 +37,8 @@ pub record DescriptionLaws (d : List ℕ) : Type 0 where
   -- a UID argument above 48 bits is not found
   pub found-narrow : Bytes d → (u : ℕ) → find d u < switchCount d → u < 281474976710656
   -- a cable at that port: none at port 0, at a host port or above 12
-  pub cable-there : (i p : ℕ) → cableOf d i p < cableCount d → (e : ℕ) × EndOf d (cableOf d i p) e × (endSwitch d e ≡ i) × (endPort d e ≡ p)
-  pub there-a-cable : (i p c e : ℕ) → c < cableCount d → EndOf d c e → endSwitch d e ≡ i → endPort d e ≡ p → cableOf d i p < cableCount d
+  pub cable-there : (i p : ℕ) → cableOf d i p < cableCount d → (e : ℕ) × EndOf (cableOf d i p) e × (endSwitch d e ≡ i) × (endPort d e ≡ p)
+  pub there-a-cable : (i p c e : ℕ) → c < cableCount d → EndOf c e → endSwitch d e ≡ i → endPort d e ≡ p → cableOf d i p < cableCount d
   pub cable-ports : (i p : ℕ) → cableOf d i p < cableCount d → (0 < p) × (p ≤ 12) × T (not (bit (hostsAt d i) p))
   -- retiring: accepted, every other switch fallen to its place, exactly the cables clear of it in order
   pub retire-accepted : (i : ℕ) → i < switchCount d → 1 < switchCount d → verdict (retired d i) .number ≡ 0
@@ -86,12 +86,12 @@ description-laws d ok = record {
     a : Accepted d
     a = verdict-rule d .0 ok
 
-    ports : (i p c e : ℕ) → c < cableCount d → EndOf d c e → endSwitch d e ≡ i → endPort d e ≡ p → (0 < p) × (p ≤ 12) × T (not (bit (hostsAt d i) p))
+    ports : (i p c e : ℕ) → c < cableCount d → EndOf c e → endSwitch d e ≡ i → endPort d e ≡ p → (0 < p) × (p ≤ 12) × T (not (bit (hostsAt d i) p))
     ports i p c e h k s q = rw (← s, ← q) (side k)
       where
         out : {e : ℕ} → End d c e → (0 < endPort d e) × (endPort d e ≤ 12) × T (not (bit (hostsAt d (endSwitch d e)) (endPort d e)))
         out x = (x .port-low, x .port-high, x .no-host)
 
-        side : EndOf d c e → (0 < endPort d e) × (endPort d e ≤ 12) × T (not (bit (hostsAt d (endSwitch d e)) (endPort d e)))
+        side : EndOf c e → (0 < endPort d e) × (endPort d e ≤ 12) × T (not (bit (hostsAt d (endSwitch d e)) (endPort d e)))
         side (inl z) = rw z (out (a .cables c h .first))
         side (inr z) = rw z (out (a .cables c h .second))

@@ -1,14 +1,13 @@
--- What an accepted description says, in the words of the refusals: the table's "given exactly when", the other way round.
+-- What an accepted description says: each refusal of 1 to 12, the other way round.
 use Prim.Native.Nat.{ℕ, _+_, _*_, _≤_, _<_}
 use mathlib.Core.List.{List}
 use mathlib.Core.Bool.{not}
 use mathlib.Core.Path.{_≡_}
 use mathlib.Core.Logic.{_≢_}
-use lib.ListN.{length}
+use lib.ListN.{getD, length}
 use lib.Dec.{T}
 use Rattle.topology.specs.Count.{bit}
-use Rattle.topology.specs.Format.{be16, switchCount, cableCount, uidAt, hostsAt, endSwitch, endPort}
-use Rattle.topology.specs.Check.{markDiffers}
+use Rattle.topology.specs.Format.{versionOf, switchCount, cableCount, sizeFor, uidAt, hostsAt, endSwitch, endPort}
 
 module _ (d : List ℕ) where
   -- switch record i: 7, 8
@@ -32,13 +31,19 @@ module _ (d : List ℕ) where
     pub second : End c (2 * c + 1)
     pub apart : endSwitch d (2 * c) ≢ endSwitch d (2 * c + 1)
 
+  -- U, D, R
+  pub record Marked : Type 0 where
+    pub letter-u : getD d 0 0 ≡ 85
+    pub letter-d : getD d 1 0 ≡ 68
+    pub letter-r : getD d 2 0 ≡ 82
+
   -- 1 to 6, then the records
   pub record Accepted : Type 0 where
-    pub mark : T (markDiffers d) → ⊥
-    pub version : be16 d 3 ≡ 1
+    pub marked : Marked
+    pub version : versionOf d ≡ 1
     pub some-switch : 0 < switchCount d
     pub few-switches : switchCount d ≤ 64
     pub few-cables : cableCount d ≤ 384
-    pub size : length d ≡ 9 + 8 * switchCount d + 4 * cableCount d
+    pub size : length d ≡ sizeFor (switchCount d) (cableCount d)
     pub switches : (i : ℕ) → i < switchCount d → Switch i
     pub cables : (c : ℕ) → c < cableCount d → Cable c

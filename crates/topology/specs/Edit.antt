@@ -4,9 +4,10 @@ use mathlib.Core.List.{List, [], _∷_, _++_}
 use mathlib.Core.Bool.{Bool, true, false, cond, not}
 use lib.ListN.{getD, length}
 use lib.Dec.{eqb, ltb, leb}
-use Rattle.topology.specs.Count.{either, least}
-use Rattle.topology.specs.Format.{switchCount, cableCount, uidAt, endSwitch, endPort, endsAt}
+use Rattle.topology.specs.Count.{either, least, those}
+use Rattle.topology.specs.Format.{mark, switchCount, cableCount, uidAt, endSwitch, endPort, endsAt}
 use Rattle.topology.specs.Check.{Verdict, refuse, accepted, unless, verdict}
+use Rattle.topology.specs.Answers.{Outcome, outcome}
 
 -- the record with that UID, all 48 bits compared; past the last where none has it
 unfoldable pub find : List ℕ → ℕ → ℕ
@@ -16,11 +17,6 @@ find d u = least (switchCount d) 0 (λ i. eqb (uidAt d i) u)
 unfoldable pub cableOf : List ℕ → ℕ → ℕ → ℕ
 cableOf d i p = least (cableCount d) 0 (λ c. either (endsAt d i p (2 * c)) (endsAt d i p (2 * c + 1)))
 
--- the numbers from a on, below a + k, that pass, in order
-unfoldable pub those : ℕ → ℕ → (ℕ → Bool) → List ℕ
-those zero a f = []
-those (suc k) a f = elim (f a) [ true ↦ a ∷ those k (suc a) f | false ↦ those k (suc a) f ]
-
 -- the records of these numbers, one after the other
 unfoldable pub records : (ℕ → List ℕ) → List ℕ → List ℕ
 records r [] = []
@@ -28,7 +24,7 @@ records r (i ∷ is) = r i ++ records r is
 
 -- the mark, version 1 and the two counts
 abbrev pub header : ℕ → ℕ → List ℕ
-header s l = 85 ∷ 68 ∷ 82 ∷ 0 ∷ 1 ∷ s / 256 ∷ s % 256 ∷ l / 256 ∷ l % 256 ∷ []
+header s l = mark ++ 0 ∷ 1 ∷ s / 256 ∷ s % 256 ∷ l / 256 ∷ l % 256 ∷ []
 
 -- switch record i, as it stands
 abbrev pub switchRecord : List ℕ → ℕ → List ℕ
@@ -93,3 +89,10 @@ pullVerdict d u p room =
     let none = unless (leb (cableCount d) c) (refuse 15 0) full in
     let unknown = unless (leb (switchCount d) i) (refuse 13 0) none in
     checked d unknown
+
+-- the new length and the new description at the start of the output
+unfoldable pub retire : List ℕ → ℕ → List ℕ → Outcome
+retire d u out = let new = retired d (find d u) in outcome (retireVerdict d u (length out)) (length new) new out
+
+unfoldable pub pull : List ℕ → ℕ → ℕ → List ℕ → Outcome
+pull d u p out = let new = pulled d (cableOf d (find d u) p) in outcome (pullVerdict d u p (length out)) (length new) new out
