@@ -2,7 +2,7 @@
 use Prim.Native.Nat.{ℕ, _%_, _^_, _<_, _≤_}
 use mathlib.Core.Bool.{Bool, true, false}
 use mathlib.Core.List.{List, [], _∷_}
-use mathlib.Core.Logic.{_⊎_, inl, inr, _↔_}
+use mathlib.Core.Logic.{_⊎_, inl, inr, _↔_, _≢_}
 use mathlib.Core.Path.{_≡_, refl, sym, subst, _∙_}
 use native.Mathlib.Omega.{arith}
 use lib.ListN.{length}
@@ -16,11 +16,18 @@ use Rattle.topology.proofs.Channels.{back-back, leaving-is, leaving-of, leaving
 use Rattle.planner.specs.Tree.{up}
 use Rattle.planner.specs.Routes.{Arrival, after, legalLength}
 use Rattle.planner.specs.Table.{good, destination, attached, arrival, begins, entry}
-use Rattle.planner.specs.Rules.{Legal, Shortest, Holds}
+use Rattle.planner.specs.Rules.{Legal, Shortest}
 use Rattle.planner.proofs.Addresses.{Good, good-is}
 use Rattle.planner.proofs.Lengths.{length-shortest, length-rule, begins-rule}
 
 module _ (n : Net) where
+  -- what the entry of s for incoming port i and address a chooses, in terms of the computed definitions
+  abbrev pub Chosen : ℕ → ℕ → ℕ → ℕ → Type 0
+  Chosen s i a p =
+      T (attached n s i) × T (good n a) ×
+      (((s ≡ destination n a) × (p ≡ a % 16))
+      ⊎ ((s ≢ destination n a) × ((r : List ℕ) × Shortest n (arrival n s i) s (leaving n s p ∷ r) (destination n a))))
+
   module _ (w : WellFormed n) where
     -- what comes over a channel comes in by an attached port, and arrives as the crossing says
     pub lands-attached : (ch : ℕ) → ch < n .channels → T (attached n (target n ch) (inPort n ch))
@@ -61,13 +68,13 @@ module _ (n : Net) where
       abbrev pick : Bool → Bool → ℕ
       pick b c = elim b [ false ↦ 0 | true ↦ elim c [ true ↦ 2 ^ (a % 16) | false ↦ bits 13 onward ] ]
 
-      pub entry-rule : (p : ℕ) → T (bit (entry n s i a) p) ↔ Holds n s i a p
+      pub entry-rule : (p : ℕ) → T (bit (entry n s i a) p) ↔ Chosen s i a p
       unfolding entry
       entry-rule p = go (both (attached n s i) (good n a)) (eqb s (destination n a)) (both-T (attached n s i) (good n a))
           (λ h. T-both (attached n s i) (good n a) (h .0) (h .1)) (eqb→eq s (destination n a)) (eq→eqb s (destination n a))
         where
           go : (b c : Bool) → (T b → T (attached n s i) × T (good n a)) → (T (attached n s i) × T (good n a) → T b)
-              → (T c → s ≡ destination n a) → (s ≡ destination n a → T c) → T (bit (pick b c) p) ↔ Holds n s i a p
+              → (T c → s ≡ destination n a) → (s ≡ destination n a → T c) → T (bit (pick b c) p) ↔ Chosen s i a p
           go false c f f′ g g′ = (λ t. absurd (subst T (zero-bit p) t), λ h. absurd (f′ (h .0, h .1)))
           go true true f f′ g g′ = (
             λ t. (f tt .0, f tt .1, inl (g tt, power-bit (a % 16) p .0 t)),
@@ -98,7 +105,7 @@ module _ (n : Net) where
           go true false g = bits-lt 13 onward
 
       -- no port, so discard
-      pub entry-none : ((p : ℕ) → Holds n s i a p → ⊥) → entry n s i a ≡ 0
+      pub entry-none : ((p : ℕ) → Chosen s i a p → ⊥) → entry n s i a ≡ 0
       entry-none none = same-bits 13 (entry n s i a) 0 entry-lt (lit< tt)
           (λ p l. same-test (bit (entry n s i a) p) (bit 0 p) (λ t. absurd (none p (entry-rule p .0 t))) (λ t. absurd (subst T (zero-bit p) t)))
 
@@ -121,5 +128,5 @@ module _ (n : Net) where
 
   -- the rule leaves one number of 16 bits
   pub determined : (s i a x y : ℕ) → x < 2 ^ 16 → y < 2 ^ 16
-      → ((p : ℕ) → p < 16 → T (bit x p) ↔ Holds n s i a p) → ((p : ℕ) → p < 16 → T (bit y p) ↔ Holds n s i a p) → x ≡ y
+      → ((p : ℕ) → p < 16 → T (bit x p) ↔ Chosen s i a p) → ((p : ℕ) → p < 16 → T (bit y p) ↔ Chosen s i a p) → x ≡ y
   determined s i a x y h l f g = same-bits 16 x y h l (λ p b. same-test (bit x p) (bit y p) (λ t. g p b .1 (f p b .0 t)) (λ t. f p b .1 (g p b .0 t)))

@@ -14,7 +14,7 @@ use Rattle.topology.proofs.Laws.{accepted-well-formed}
 use Rattle.planner.specs.Tree.{within, joined, root, level, above, up, upEnd, parentChannel}
 use Rattle.planner.specs.Routes.{Arrival, free, bound, after, way, far, legalLength}
 use Rattle.planner.specs.Table.{good, destination, attached, arrival, begins, entry}
-use Rattle.planner.specs.Rules.{Once, Walk, Parent, Legal, Shortest, Holds}
+use Rattle.planner.specs.Rules.{Once, Walk, Parent, Legal, Shortest}
 use Rattle.planner.proofs.Walks.{within-walk, walk-within, within-more, within-short, walk-switch, walk-joined, joined-refl, joined-sym, joined-trans}
 use Rattle.planner.proofs.Levels.{level-walk, level-least, root-switch, root-joined, root-lowest, root-same, level-shortest, level-bound, level-root, level-zero, channel-root, level-rise, level-fall}
 use Rattle.planner.proofs.Order.{above-T, T-above, up-above, above-irreflexive, above-transitive, above-asymmetric, above-total, up-back}
@@ -25,7 +25,7 @@ use Rattle.planner.proofs.Heights.{legal-short}
 use Rattle.planner.proofs.Ways.{way-legal}
 use Rattle.planner.proofs.Lengths.{length-shortest, length-rule, shortest-length, length-here, begins-rule}
 use Rattle.planner.proofs.Addresses.{destination-of, good-rule}
-use Rattle.planner.proofs.Entries.{arrives, entry-rule, entry-lt, entry-none, entry-some, determined}
+use Rattle.planner.proofs.Entries.{Chosen, arrives, entry-rule, entry-lt, entry-none, entry-some, determined}
 
 pub record TreeLaws (n : Net) : Type 0 where
   -- components: switches joined by walks
@@ -81,12 +81,12 @@ pub record RouteLaws (n : Net) : Type 0 where
 
 pub record EntryLaws (n : Net) : Type 0 where
   -- an entry is exactly the set that the rules say, and they leave one number
-  pub holds : (s i a p : ℕ) → T (bit (entry n s i a) p) ↔ Holds n s i a p
+  pub holds : (s i a p : ℕ) → T (bit (entry n s i a) p) ↔ Chosen n s i a p
   pub no-other-bits : (s i a : ℕ) → entry n s i a < 2 ^ 13
   pub one-entry : (s i a x y : ℕ) → x < 2 ^ 16 → y < 2 ^ 16
-      → ((p : ℕ) → p < 16 → T (bit x p) ↔ Holds n s i a p) → ((p : ℕ) → p < 16 → T (bit y p) ↔ Holds n s i a p) → x ≡ y
+      → ((p : ℕ) → p < 16 → T (bit x p) ↔ Chosen n s i a p) → ((p : ℕ) → p < 16 → T (bit y p) ↔ Chosen n s i a p) → x ≡ y
   -- 0 where no port is held; above 0 wherever a legal remainder exists
-  pub discards : (s i a : ℕ) → ((p : ℕ) → Holds n s i a p → ⊥) → entry n s i a ≡ 0
+  pub discards : (s i a : ℕ) → ((p : ℕ) → Chosen n s i a p → ⊥) → entry n s i a ≡ 0
   pub serves : (s i a : ℕ) → T (attached n s i) → T (good n a) → (r : List ℕ) → Legal n (arrival n s i) s r (destination n a) → 0 < entry n s i a
   -- an address names the switch that holds its number; good exactly for port 0 or a host port of that switch
   pub addressed : (s p : ℕ) → s < n .switches → p < 16 → destination n (16 * n .number s + p) ≡ s

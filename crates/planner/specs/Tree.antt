@@ -57,3 +57,7 @@ module _ (n : Net) where
   -- the parent's number or 0
   unfoldable pub parentNumber : ℕ → ℕ
   parentNumber s = cond (live n (parentChannel s)) (n .number (target n (parentChannel s))) 0
+
+  -- the child's port of the parent cable or 0
+  unfoldable pub parentPort : ℕ → ℕ
+  parentPort s = cond (live n (parentChannel s)) (n .outPort (parentChannel s)) 0

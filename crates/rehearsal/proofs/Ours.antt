@@ -7,13 +7,12 @@ use Rattle.topology.specs.Net.{Net, WellFormed, target, inPort, leaving}
 use Rattle.planner.specs.Tree.{up}
 use Rattle.planner.specs.Routes.{after, legalLength, far}
 use Rattle.planner.specs.Table.{good, destination, arrival, entry}
-use Rattle.planner.specs.Rules.{Holds}
 use Rattle.planner.proofs.Lengths.{Hop, shortest-hop, length-rule, length-here}
-use Rattle.planner.proofs.Entries.{entry-rule, entry-some, lands-attached, arrives}
+use Rattle.planner.proofs.Entries.{Chosen, entry-rule, entry-some, lands-attached, arrives}
 use Rattle.rehearsal.proofs.Figures.{TableLaws, Exact}
 
 module _ (n : Net) (w : WellFormed n) where
-  hop : (s i a p : ℕ) → Holds n s i a p → s ≢ destination n a → Hop n w (arrival n s i) s (destination n a) (leaving n s p)
+  hop : (s i a p : ℕ) → Chosen n s i a p → s ≢ destination n a → Hop n w (arrival n s i) s (destination n a) (leaving n s p)
   hop s i a p h ne = elim (h .2) [ inl x ↦ absurd (ne (x .0)) | inr x ↦ shortest-hop n w _ s _ _ (x .1 .0) (x .1 .1) ]
 
   way-on : (ch a : ℕ) → ch < n .channels → T (good n a)
