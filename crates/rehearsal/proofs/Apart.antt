@@ -9,7 +9,9 @@ use lib.ListN.{getD}
 use lib.Dec.{eqb}
 use Rattle.topology.specs.Net.{Net, target}
 use Rattle.rehearsal.specs.Machine.{answers}
-use Rattle.rehearsal.specs.Moves.{Cell, none, Answer, Order, Tables, moving, onward}
+use Rattle.rehearsal.specs.Packets.{Cell, none}
+use Rattle.rehearsal.specs.Answers.{Answer, Order}
+use Rattle.rehearsal.specs.Moves.{Tables, moving, onward}
 use Rattle.rehearsal.specs.Follow.{Whereabouts, inChannel, deliveredAt, Apart, hop, followed}
 use Rattle.rehearsal.proofs.Effects.{Effect, stays, placed, goes, leaves, effect}
 use Rattle.rehearsal.proofs.Sound.{Facts, apart, sound-next}

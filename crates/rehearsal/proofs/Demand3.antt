@@ -1,4 +1,4 @@
--- Demand 3 of every well-formed net.
+-- Demand 3 of the machine over what the channels hold, in every well-formed net.
 use Prim.Native.Nat.{ℕ, _≤_, _%_}
 use native.Mathlib.Omega.{arith}
 use mathlib.Core.List.{List, []}
@@ -12,9 +12,13 @@ use Rattle.topology.proofs.Laws.{accepted-well-formed}
 use Rattle.planner.specs.Routes.{legalLength, far}
 use Rattle.planner.specs.Table.{entry, destination}
 use Rattle.rehearsal.specs.Machine.{last, answers, tally, every}
-use Rattle.rehearsal.specs.Moves.{entries, soundAt, hopsLeft, Packet, Cell, none, packet, Full, addressOf, nothing, Order, advances, moving, rehearsal, Still, packets, each}
+use Rattle.rehearsal.specs.Packets.{Packet, Cell, none, packet, Full, addressOf, nothing}
+use Rattle.rehearsal.specs.Answers.{Order, advances}
+use Rattle.rehearsal.specs.Moves.{entries, moving, rehearsal}
+use Rattle.rehearsal.specs.Sound.{soundAt, soundHeld}
+use Rattle.rehearsal.specs.Left.{hopsLeft, Still, packets, each}
 use Rattle.rehearsal.specs.Follow.{Whereabouts, inChannel, deliveredAt}
-use Rattle.rehearsal.specs.Drains.{Sound, goesTo, Drained, Drains}
+use Rattle.rehearsal.specs.Drains.{goesTo, Drained, Drains}
 use Rattle.rehearsal.proofs.Tables as tables
 use Rattle.rehearsal.proofs.Figures.{counts, draining}
 use Rattle.rehearsal.proofs.Ranks.{rank}
@@ -24,6 +28,7 @@ use Rattle.rehearsal.proofs.Sound.{Facts}
 use Rattle.rehearsal.proofs.Soundness.{facts, sound-held}
 use Rattle.rehearsal.proofs.Progress.{progress}
 use Rattle.rehearsal.proofs.Spending.{last-length, sound-last, spent, left-net, gone}
+use Rattle.rehearsal.proofs.Endings.{conserved, reached, idle}
 use Rattle.rehearsal.proofs.Identity.{At, keeps-address}
 use Rattle.rehearsal.proofs.Apart.{stay-apart}
 use Rattle.rehearsal.proofs.Origin.{each-home, delivery, empty-not, full-if}
@@ -49,6 +54,14 @@ whole : (x : Cell) → Full x → (pk : Packet) × (x ≡ packet pk) × (pk .add
 whole none f = absurd f
 whole (packet pk) f = (pk, refl, refl)
 
+-- 768 channels, each empty or sound
+abbrev pub SoundCells : Net → List Cell → Type 0
+SoundCells n held = (length held ≡ 768) × T (soundHeld n held)
+
+-- what a list of cells itself is taken for
+abbrev pub itself : List Cell → List Cell
+itself held = held
+
 module _ (n : Net) (w : WellFormed n) where
   abbrev Fit : ℕ → ℕ → Type 0
   Fit ch a = T (soundAt n ch a)
@@ -60,19 +73,20 @@ module _ (n : Net) (w : WellFormed n) where
   unfolding hopsLeft
   hops = counts n (entry n) (legalLength n) (far n) w (table-laws n w) (exact n w)
 
-  known : (held : List Cell) → Sound n held → Facts n Fit held
+  known : (held : List Cell) → SoundCells n held → Facts n Fit held
   known held s = facts n held (rw (s .0) (w .few-channels)) (s .1)
 
-  sound : (held : List Cell) → length held ≡ 768 → Facts n Fit held → Sound n held
+  sound : (held : List Cell) → length held ≡ 768 → Facts n Fit held → SoundCells n held
   sound held e f = (e, sound-held n held f)
 
-  start : Sound n nothing
-  start = sound nothing size (record {
+  -- an empty net is sound
+  pub nothing-sound : SoundCells n nothing
+  nothing-sound = sound nothing size (record {
     room = rw size (w .few-channels);
     each = λ ch. rw (bare ch) tt;
   })
 
-  stays : (held : List Cell) (os : List Order) → Sound n held → Sound n (last (rehearsal n) held os)
+  stays : (held : List Cell) (os : List Order) → SoundCells n held → SoundCells n (last (rehearsal n) held os)
   unfolding rehearsal
   stays held os s =
       sound (last (moving n (entries n)) held os) (last-length n (entries n) Fit (rank n) law held os ∙ s .0)
@@ -83,7 +97,8 @@ module _ (n : Net) (w : WellFormed n) where
   home a (inChannel c) at = absurd (empty-not (getD nothing c none) (bare c) (full-if _ (at .1)))
   home a (deliveredAt t p) at = ap₂ deliveredAt (at .0) (at .1)
 
-  done : (held : List Cell) (os : List Order) → Sound n held → T (every advances os) → Still (rehearsal n) (last (rehearsal n) held os) → Drained n held os
+  done : (held : List Cell) (os : List Order) → SoundCells n held → T (every advances os) → Still (rehearsal n) (last (rehearsal n) held os)
+      → Drained n (rehearsal n) itself (SoundCells n) held os
   unfolding rehearsal
   done held os s adv still =
       let f = known held s in
@@ -97,24 +112,23 @@ module _ (n : Net) (w : WellFormed n) where
         empty = empty;
         each-home = λ ch full.
             let p = whole (getD held ch none) full in
-            home _ (goesTo n held os ch) (rw empty at (keeps-address n (entries n) Fit (rank n) law _ held os f (inChannel ch) p));
+            home _ (goesTo n (moving n (entries n)) itself (SoundCells n) held os ch) (rw empty at (keeps-address n (entries n) Fit (rank n) law _ held os f (inChannel ch) p));
       }
 
-  pub drains : Drains n
+  pub drains : Drains n (rehearsal n) itself (SoundCells n)
   unfolding rehearsal
   drains = record {
-    starts-sound = start;
     stays-sound = stays;
     goes-on = λ held s ch full. progress n (entries n) Fit (rank n) law held (known held s) ch full;
+    conserves = λ held os s. conserved n (entries n) Fit (rank n) law held os (known held s);
     counts = λ held os s adv. spent n (entries n) Fit (rank n) law (hopsLeft n) held os (known held s) adv hops;
+    ends = λ held s. reached n (entries n) Fit (rank n) law (hopsLeft n) hops held (known held s);
+    nothing-is-still = λ held s e. idle n (entries n) held (λ ch. rw e (bare ch));
     drained = done;
     apart = λ held os s c d fc fd ne.
         let p = whole (getD held c none) fc in
         let q = whole (getD held d none) fd in
         stay-apart n (entries n) Fit (rank n) law _ _ held os (known held s) (inChannel c) (inChannel d) p q (λ e p q. ne (cc));
-    delivery = λ os ch p q h. delivery n (entries n) Fit (rank n) law nothing os (known nothing start) bare ch p q h;
-    placed-home = λ os done a w e. each-home n (entries n) Fit (rank n) law (known nothing start) e (λ ch. rw done (bare ch));
+    delivery = λ held s e os ch p q h. delivery n (entries n) Fit (rank n) law held os (known held s) (λ c. rw e (bare c)) ch p q h;
+    placed-home = λ held s e os done a w en. each-home n (entries n) Fit (rank n) law (known held s) en (λ ch. rw done (bare ch));
   }
-
-pub demand-3 : (d : List ℕ) → verdict d .number ≡ 0 → Drains (netOf d)
-demand-3 d e = drains (netOf d) (accepted-well-formed d e)

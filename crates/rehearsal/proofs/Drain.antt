@@ -12,7 +12,7 @@ use Rattle.topology.proofs.Tests.{both-T}
 abbrev pub one : Bool → ℕ
 one b = cond b 1 0
 
-tally-cons : (b : Bool) (k : ℕ) → cond b (suc k) k ≡ one b + k
+pub tally-cons : (b : Bool) (k : ℕ) → cond b (suc k) k ≡ one b + k
 tally-cons true k = omega arith
 tally-cons false k = omega arith
 

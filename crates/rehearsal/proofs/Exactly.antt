@@ -8,12 +8,14 @@ use lib.ListN.{getD}
 use lib.Dec.{T, lt→ltb}
 use Rattle.topology.specs.Net.{Net, target, leaving, live, delivers}
 use Rattle.planner.specs.Table.{holder}
-use Rattle.rehearsal.specs.Moves.{Tables, onward, allows, Cell, none, packet, Full, addressOf, Reason, taken, needs, Answer, moved, delivered, isAccepted, placing, advancing, moving, placeAnswer, advanceAnswer, headAnswer, taken?}
+use Rattle.rehearsal.specs.Packets.{Cell, none, packet, Full, addressOf}
+use Rattle.rehearsal.specs.Answers.{Answer, moved, delivered, isAccepted, placing, advancing}
+use Rattle.rehearsal.specs.Moves.{Tables, onward, allows, needs, moving, placeAnswer, advanceAnswer, headAnswer, taken?}
 use Rattle.rehearsal.specs.Rules.{MayPlace, MayAdvance}
 use Rattle.topology.proofs.Tests.{T-both, cond-is, cond-not}
 use Rattle.rehearsal.proofs.Effects.{Effect, stays, placed, goes, leaves, effect}
 
-needs-is : (b : Bool) (r : Reason) (x : Answer) → T b → needs b r x ≡ x
+needs-is : (b : Bool) (r : ℕ) (x : Answer) → T b → needs b r x ≡ x
 unfolding needs
 needs-is true r x t = refl
 needs-is false r x t = absurd t
@@ -21,7 +23,7 @@ needs-is false r x t = absurd t
 module _ (n : Net) (holds : Tables) (held : List Cell) where
   placed-so : {k a p : ℕ} {x : Answer} {m : List Cell} → Effect n holds held (placing k a p) x m → T (isAccepted x) → MayPlace n holds held k a p
   placed-so (stays r) t = absurd t
-  placed-so (placed s g h c f) t = record { switch = s; address = g; held-port = h; cable = c; free = f }
+  placed-so (placed s g h c f) t = record { switch = s; address = g; held-port = h; cable = c; next-empty = f }
 
   advanced-so : {ch p : ℕ} {x : Answer} {m : List Cell} → Effect n holds held (advancing ch p) x m → T (isAccepted x) → MayAdvance n holds held ch p
   advanced-so (stays r) t = absurd t
@@ -32,10 +34,10 @@ module _ (n : Net) (holds : Tables) (held : List Cell) where
   unfolding placeAnswer
   may-place k a p m =
       let port = T-both (holds (holder n k) 0 a p) (live n (leaving n (holder n k) p)) (m .held-port) (lt→ltb _ _ (m .cable)) in
-      needs-is _ _ _ (lt→ltb _ _ (m .switch)) ∙ needs-is _ _ _ (m .address) ∙ needs-is _ _ _ port ∙ needs-is _ _ _ (m .free)
+      needs-is _ _ _ (lt→ltb _ _ (m .switch)) ∙ needs-is _ _ _ (m .address) ∙ needs-is _ _ _ port ∙ needs-is _ _ _ (m .next-empty)
 
   head-accepted : (ch p : ℕ) (x : Cell) → Full x → T (allows n holds ch (addressOf x) p)
-      → T (delivers n (target n ch) p) ⊎ (T (not (delivers n (target n ch) p)) × T (not (taken? n held (onward n ch p)))) → T (isAccepted (headAnswer n holds held ch p x))
+      → T (delivers n (target n ch) p) ⊎ (T (not (delivers n (target n ch) p)) × T (not (taken? held (onward n ch p)))) → T (isAccepted (headAnswer n holds held ch p x))
   head-accepted ch p none full al room = absurd full
   head-accepted ch p (packet pk) full al (inl off) =
       let is : headAnswer n holds held ch p (packet pk) ≡ delivered p = needs-is _ _ _ al ∙ cond-is (delivers n (target n ch) p) _ _ off in

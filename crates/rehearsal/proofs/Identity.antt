@@ -13,7 +13,9 @@ use lib.Dec.{eqb, eqb→eq}
 use Rattle.topology.specs.Net.{Net, target}
 use Rattle.planner.specs.Table.{destination}
 use Rattle.rehearsal.specs.Machine.{last, answers}
-use Rattle.rehearsal.specs.Moves.{Tables, onward, Packet, Cell, none, packet, addressOf, Full, Answer, Order, moving}
+use Rattle.rehearsal.specs.Packets.{Packet, Cell, none, packet, addressOf, Full}
+use Rattle.rehearsal.specs.Answers.{Answer, Order}
+use Rattle.rehearsal.specs.Moves.{Tables, onward, moving}
 use Rattle.rehearsal.specs.Follow.{Whereabouts, inChannel, deliveredAt, Apart, hop, followed}
 use Rattle.topology.proofs.Tests.{choose-cond, eq→eqb}
 use Rattle.rehearsal.proofs.Tables.{Draining}

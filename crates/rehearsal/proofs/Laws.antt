@@ -11,7 +11,10 @@ use Rattle.topology.specs.Check.{verdict}
 use Rattle.topology.specs.Net.{Net, netOf}
 use Rattle.topology.proofs.Tests.{both-T, T-both, eq→eqb, or-not, cond-is, cond-not}
 use Rattle.rehearsal.specs.Machine.{last}
-use Rattle.rehearsal.specs.Moves.{Cell, Answer, refused, unsound, isAccepted, Order, placing, advancing, moving, rehearsal, settle, soundHeld, soundRecord, call, entries}
+use Rattle.rehearsal.specs.Packets.{Cell}
+use Rattle.rehearsal.specs.Answers.{Answer, refused, isAccepted, Order, placing, advancing}
+use Rattle.rehearsal.specs.Moves.{moving, rehearsal, settle, entries}
+use Rattle.rehearsal.specs.Sound.{soundHeld}
 use Rattle.rehearsal.specs.Drains.{Sound}
 use Rattle.rehearsal.specs.Rules.{MayPlace, MayAdvance}
 use Rattle.rehearsal.proofs.Exactly.{place-exactly, advance-exactly}
@@ -29,7 +32,7 @@ pub record Calls (d : List ℕ) (held : List Cell) : Type 0 where
   pub places : (k a p : ℕ) → T (isAccepted (call d held (placing k a p) .0)) ↔ (T (soundRecord d held) × MayPlace (netOf d) (entries (netOf d)) held k a p)
   pub advances : (ch p : ℕ) → T (isAccepted (call d held (advancing ch p) .0)) ↔ (T (soundRecord d held) × MayAdvance (netOf d) (entries (netOf d)) held ch p)
 
-settled : (n : Net) (held : List Cell) (x : Answer) (o : Order) → T (not (isAccepted x)) → settle n held x o ≡ held
+settled : (n : Net) (held : List Cell) (x : Answer) (o : Order) → T (not (isAccepted x)) → settle held x o ≡ held
 settled n held (Answer.moved c) o t = absurd t
 settled n held (Answer.delivered p) o t = absurd t
 settled n held (refused r) o t = refl

@@ -11,7 +11,9 @@ use lib.Seq.{getD-set-same, getD-set-other}
 use Rattle.topology.specs.Net.{Net, target, leaving}
 use Rattle.planner.specs.Table.{destination, holder}
 use Rattle.rehearsal.specs.Machine.{Machine, last, answers}
-use Rattle.rehearsal.specs.Moves.{Tables, onward, Packet, sent, Cell, none, packet, addressOf, Full, Answer, moved, delivered, Order, placing, advancing, moving}
+use Rattle.rehearsal.specs.Packets.{Packet, sent, Cell, none, packet, addressOf, Full}
+use Rattle.rehearsal.specs.Answers.{Answer, moved, delivered, Order, placing, advancing}
+use Rattle.rehearsal.specs.Moves.{Tables, onward, moving}
 use Rattle.rehearsal.specs.Follow.{Whereabouts, inChannel, deliveredAt, hop, followed, Entered, now, later}
 use Rattle.rehearsal.proofs.Drain.{keeps}
 use Rattle.rehearsal.proofs.Identity.{by-channel, At, keeps-address}

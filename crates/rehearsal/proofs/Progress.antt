@@ -8,7 +8,9 @@ use mathlib.Core.Logic.{_⊎_, inl, inr}
 use lib.ListN.{getD}
 use lib.Dec.{T}
 use Rattle.topology.specs.Net.{Net, target, delivers}
-use Rattle.rehearsal.specs.Moves.{Tables, onward, allows, Cell, none, packet, Full, addressOf, full?, isAccepted, advancing, moving, taken?}
+use Rattle.rehearsal.specs.Packets.{Cell, none, packet, Full, addressOf, full?}
+use Rattle.rehearsal.specs.Answers.{isAccepted, advancing}
+use Rattle.rehearsal.specs.Moves.{Tables, onward, allows, moving, taken?}
 use Rattle.rehearsal.specs.Rules.{MayAdvance}
 use Rattle.topology.proofs.Tests.{or-not}
 use Rattle.rehearsal.proofs.Drain.{chase}
@@ -42,7 +44,7 @@ module _ (n : Net) (holds : Tables) (Fit : ℕ → ℕ → Type 0) (rank : ℕ �
     accepts ch p m = (ch, p, advance-exactly n holds held ch p .1 m)
 
     steps : (ch p : ℕ) → Full (getD held ch none) → T (allows n holds ch (addressOf (getD held ch none)) p)
-        → T (delivers n (target n ch) p) ⊎ T (not (delivers n (target n ch) p)) → T (taken? n held (onward n ch p)) ⊎ T (not (taken? n held (onward n ch p))) → Moves ⊎ Ahead ch
+        → T (delivers n (target n ch) p) ⊎ T (not (delivers n (target n ch) p)) → T (taken? held (onward n ch p)) ⊎ T (not (taken? held (onward n ch p))) → Moves ⊎ Ahead ch
     unfolding taken?
     steps ch p full al (inl off) d = inl (accepts ch p (record { channel = law .live ch _ (fits ch full); head = full; held-port = al; room = inl off }))
     steps ch p full al (inr on) (inr free) = inl (accepts ch p (record { channel = law .live ch _ (fits ch full); head = full; held-port = al; room = inr (on, free) }))
@@ -55,4 +57,4 @@ module _ (n : Net) (holds : Tables) (Fit : ℕ → ℕ → Type 0) (rank : ℕ �
         waits : (x : Heads) → Moves ⊎ Ahead (x .0)
         waits x =
             let port = law .allowed (x .0) _ (fits (x .0) (x .1)) in
-            steps (x .0) (port .0) (x .1) (port .1) (or-not (delivers n (target n (x .0)) (port .0))) (or-not (taken? n held (onward n (x .0) (port .0))))
+            steps (x .0) (port .0) (x .1) (port .1) (or-not (delivers n (target n (x .0)) (port .0))) (or-not (taken? held (onward n (x .0) (port .0))))

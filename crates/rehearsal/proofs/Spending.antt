@@ -10,7 +10,10 @@ use lib.Seq.{getD-set-other, length-take-le}
 use lib.Dec.{T, T-not}
 use Rattle.topology.specs.Net.{Net}
 use Rattle.rehearsal.specs.Machine.{last, answers, tally, every}
-use Rattle.rehearsal.specs.Moves.{Tables, onward, Packet, Cell, none, packet, Full, Answer, isAccepted, leavesNet, Order, advancing, advances, moving, Still, toGo, sum, work, each, packets}
+use Rattle.rehearsal.specs.Packets.{Packet, Cell, none, packet, Full}
+use Rattle.rehearsal.specs.Answers.{Answer, isAccepted, leavesNet, Order, advancing, advances}
+use Rattle.rehearsal.specs.Moves.{Tables, onward, moving}
+use Rattle.rehearsal.specs.Left.{Still, toGo, sum, work, each, packets}
 use Rattle.rehearsal.proofs.Drain.{one, keeps, at-most, exactly}
 use Rattle.rehearsal.proofs.Tables.{Draining, Descends, Counts}
 use Rattle.rehearsal.proofs.Held.{sum-set, sum-empty, some-or-none}
@@ -20,7 +23,7 @@ use Rattle.rehearsal.proofs.Progress.{progress}
 
 -- sums over the heads after each kind of step
 module _ (cost : ℕ → Cell → ℕ) (free : (ch : ℕ) → cost ch none ≡ 0) (held : List Cell) (ch : ℕ) (x : Cell) (e : getD held ch none ≡ x) (hc : ch < length held) where
-  here-sum : (y : Cell) → sum cost (set held ch y) + cost ch x ≡ sum cost held + cost ch y
+  pub here-sum : (y : Cell) → sum cost (set held ch y) + cost ch x ≡ sum cost held + cost ch y
   here-sum y = rw e at (sum-set none cost held ch y hc)
 
   on-sum : (to : ℕ) (y : Cell) → to < length held → to ≢ ch → getD held to none ≡ none → sum cost (set (set held ch none) to y) + cost ch x ≡ sum cost held + cost to y
@@ -46,7 +49,7 @@ module _ (n : Net) (holds : Tables) (Fit : ℕ → ℕ → Type 0) (rank : ℕ �
   sound-last held os s = keeps (moving n holds) (Facts n Fit) (sound-next n holds Fit rank law) held os s
 
   -- an accepted advance to another channel, and its sum
-  goes-sum : (cost : ℕ → Cell → ℕ) → ((ch : ℕ) → cost ch none ≡ 0) → {held : List Cell} {ch : ℕ} {pk : Packet} (p : ℕ) → Facts n Fit held → ch < n .channels
+  pub goes-sum : (cost : ℕ → Cell → ℕ) → ((ch : ℕ) → cost ch none ≡ 0) → {held : List Cell} {ch : ℕ} {pk : Packet} (p : ℕ) → Facts n Fit held → ch < n .channels
       → getD held ch none ≡ packet pk → onward n ch p < n .channels → Free n holds held (onward n ch p)
       → sum cost (set (set held ch none) (onward n ch p) (packet pk)) + cost ch (packet pk)
       ≡ sum cost held + cost (onward n ch p) (packet pk)

@@ -7,7 +7,10 @@ use lib.Dec.{T}
 use Rattle.topology.specs.Net.{Net, WellFormed}
 use Rattle.planner.specs.Routes.{Arrival}
 use Rattle.rehearsal.specs.Machine.{last, answers, tally, every}
-use Rattle.rehearsal.specs.Moves.{Cell, none, isAccepted, Order, advances, moving, Still, work}
+use Rattle.rehearsal.specs.Packets.{Cell, none}
+use Rattle.rehearsal.specs.Answers.{isAccepted, Order, advances}
+use Rattle.rehearsal.specs.Moves.{moving}
+use Rattle.rehearsal.specs.Left.{Still, work}
 use Rattle.rehearsal.proofs.Sound.{Facts}
 use Rattle.rehearsal.proofs.Spending.{gone-most}
 use Rattle.rehearsal.proofs.Figures.{TableLaws, Fits, left, holding, descends, draining}

@@ -6,7 +6,7 @@ use mathlib.Core.Path.{_≡_}
 use lib.Dec.{eqb}
 use Rattle.topology.specs.Net.{Net, target}
 use Rattle.rehearsal.specs.Machine.{Machine, answers}
-use Rattle.rehearsal.specs.Moves.{Cell, Answer, moved, delivered, refused, Order, placing, advancing}
+use Rattle.rehearsal.specs.Answers.{Answer, moved, delivered, refused, Order, placing, advancing}
 
 -- in a channel, or delivered at a switch and port
 pub data Whereabouts : Type 0 where
@@ -21,7 +21,7 @@ module _ (n : Net) where
   -- where a packet's head is after an order so answered
   abbrev pub hop : Whereabouts → Answer → Order → Whereabouts
   hop (deliveredAt s p) x o = deliveredAt s p
-  hop (inChannel c) (refused r) o = inChannel c
+  hop (inChannel c) (refused k) o = inChannel c
   hop (inChannel c) (moved d) (placing k a p) = inChannel c
   hop (inChannel c) (moved d) (advancing ch p) = cond (eqb c ch) (inChannel d) (inChannel c)
   hop (inChannel c) (delivered q) (placing k a p) = inChannel c
@@ -32,8 +32,8 @@ module _ (n : Net) where
   followed w (o ∷ os) [] = w
   followed w (o ∷ os) (x ∷ xs) = followed (hop w x o) os xs
 
--- Of a run from held over os: a packet that one of its orders placed with address a is at w after it.
-pub data Entered (n : Net) (m : Machine (List Cell) Order Answer) : List Cell → List Order → ℕ → Whereabouts → Type 0 where
-  now : {held : List Cell} {os : List Order} {k a p c : ℕ} → m .answer held (placing k a p) ≡ moved c
-      → Entered n m held (placing k a p ∷ os) a (followed n (inChannel c) os (answers m (m .next held (placing k a p)) os))
-  later : {held : List Cell} {o : Order} {os : List Order} {a : ℕ} {w : Whereabouts} → Entered n m (m .next held o) os a w → Entered n m held (o ∷ os) a w
+-- Of a run from s over os: a packet that one of its orders placed with address a is at w after it.
+pub data Entered (n : Net) {S : Type 0} (m : Machine S Order Answer) : S → List Order → ℕ → Whereabouts → Type 0 where
+  now : {s : S} {os : List Order} {k a p c : ℕ} → m .answer s (placing k a p) ≡ moved c
+      → Entered n m s (placing k a p ∷ os) a (followed n (inChannel c) os (answers m (m .next s (placing k a p)) os))
+  later : {s : S} {o : Order} {os : List Order} {a : ℕ} {w : Whereabouts} → Entered n m (m .next s o) os a w → Entered n m s (o ∷ os) a w

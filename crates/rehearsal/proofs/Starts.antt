@@ -1,0 +1,63 @@
+-- Starting: what the record then keeps, and what a refused start leaves.
+use Prim.Native.Nat.{ℕ, _+_, _-_, _≤_}
+use native.Mathlib.Omega.{arith}
+use mathlib.Core.List.{List, _++_}
+use mathlib.Core.Bool.{Bool, not}
+use mathlib.Core.Path.{_≡_, refl, sym, _∙_, ap}
+use lib.ListN.{length, length-append, length-replicate, take, replicate}
+use lib.Seq.{take-append-seam}
+use lib.Dec.{T, eqb, leb, le→leb, eqb→eq}
+use Rattle.topology.specs.Check.{Verdict, accepted, verdict}
+use Rattle.topology.specs.Net.{netOf}
+use Rattle.topology.specs.Accepted.{Accepted}
+use Rattle.topology.proofs.Tests.{T-both, eq→eqb, ne→neqb, cond-is, cond-not}
+use Rattle.topology.proofs.Laws.{accepted-exactly, accepted-well-formed}
+use Rattle.rehearsal.specs.Packets.{Cell, cellsOf, nothing}
+use Rattle.rehearsal.specs.Sound.{soundHeld}
+use Rattle.rehearsal.specs.Record.{Rehearsal, descriptionOf, soundOn, soundRecord, begun, Started, start}
+use Rattle.rehearsal.proofs.Words.{no-words}
+use Rattle.rehearsal.proofs.Demand3.{nothing-sound}
+use Rattle.rehearsal.proofs.Calls.{Keeping, parts-sound}
+
+module _ (d : List ℕ) where
+  started : verdict d .number ≡ 0 → (r : Rehearsal) → start d r ≡ record { verdict = accepted; lent = begun d }
+  unfolding start
+  started ok r = cond-is (eqb (verdict d .number) 0) _ _ (eq→eqb (verdict d .number) 0 ok)
+
+  -- a refused start answers what checking does, and leaves the record as it was
+  pub start-refused : (verdict d .number ≡ 0 → ⊥) → (r : Rehearsal) → start d r ≡ record { verdict = verdict d; lent = r }
+  unfolding start
+  start-refused bad r = cond-not (eqb (verdict d .number) 0) _ _ (ne→neqb (verdict d .number) 0 bad)
+
+  module _ (ok : verdict d .number ≡ 0) where
+    short : length d ≤ 2057
+    short = let a = accepted-exactly d .0 ok in omega (arith, a .size, a .few-switches, a .few-cables)
+
+    pub begun-description : descriptionOf (begun d) ≡ d
+    unfolding begun
+    begun-description = take-append-seam d (replicate (2057 - length d) 0)
+
+    pub begun-room : length (begun d .bytes) ≡ 2057
+    unfolding begun
+    begun-room = length-append d (replicate (2057 - length d) 0) ∙ omega (arith, short, length-replicate {A = ℕ} (2057 - length d) 0)
+
+    pub begun-empty : cellsOf (begun d .words) ≡ nothing
+    unfolding begun
+    begun-empty = no-words
+
+    pub begun-words : begun d .words ≡ replicate 768 0
+    unfolding begun
+    begun-words = refl
+
+    pub begun-keeping : Keeping d (begun d)
+    unfolding begun
+    begun-keeping =
+        let empty : T (soundHeld (netOf d) (cellsOf (replicate 768 0))) = rw no-words (nothing-sound (netOf d) (accepted-well-formed d ok) .1) in
+        let on : T (soundOn d (replicate 768 0)) = parts-sound d (replicate 768 0) ok (length-replicate {A = ℕ} 768 0) empty in (
+          T-both (leb (length d) 2057) (soundOn (descriptionOf (begun d)) (replicate 768 0)) (le→leb (length d) 2057 short) (rw begun-description on),
+          begun-description,
+        )
+
+    -- an accepted start, on any record, gives the record begun with d
+    pub start-begins : (r : Rehearsal) → start d r ≡ record { verdict = accepted; lent = begun d }
+    start-begins = started ok
