@@ -9,15 +9,16 @@ use lib.ListN.{length}
 use lib.Dec.{T, eqb, ltb→lt, eqb→eq, lit<}
 use lib.Pow.{pow-lt}
 use Rattle.topology.specs.Count.{both, bit, bits}
-use Rattle.topology.specs.Net.{Net, WellFormed, live, leaving, host, delivers, cabled, target, inPort}
-use Rattle.topology.proofs.Tests.{decide, split, both-T, T-both, either-T, T-either, same-test, eq→eqb, cond-is}
+use Rattle.topology.specs.Net.{Net, WellFormed, live, leaving, delivers, cabled, target, inPort}
+use Rattle.topology.proofs.Tests.{decide, split, both-T, T-both, T-either, same-test, eq→eqb, cond-is}
 use Rattle.topology.proofs.Bits.{no-bit, zero-bit, bit-pos, power-bit, bits-bit, bits-lt, same-bits}
 use Rattle.topology.proofs.Channels.{back-back, leaving-is, leaving-of, leaving-back, comes-in}
 use Rattle.planner.specs.Tree.{up}
 use Rattle.planner.specs.Routes.{Arrival, after, legalLength}
 use Rattle.planner.specs.Table.{good, destination, attached, arrival, begins, entry}
 use Rattle.planner.specs.Rules.{Legal, Shortest}
-use Rattle.planner.proofs.Addresses.{Good, good-is}
+use Rattle.planner.proofs.Ports.{delivers-exactly, delivers-low}
+use Rattle.planner.proofs.Addresses.{good-is}
 use Rattle.planner.proofs.Lengths.{length-shortest, length-rule, begins-rule}
 
 module _ (n : Net) where
@@ -86,14 +87,7 @@ module _ (n : Net) where
           )
 
       port-low : T (good n a) → a % 16 < 13
-      port-low t = go (good-is n a t) (split (a % 16) 13)
-        where
-          go : Good n a → (a % 16 < 13) ⊎ (13 ≤ a % 16) → a % 16 < 13
-          go g (inl l) = l
-          go g (inr l) = elim (either-T (eqb (a % 16) 0) (host n (destination n a) (a % 16)) (g .port)) [
-            | inl e ↦ omega (arith, eqb→eq (a % 16) 0 e)
-            | inr e ↦ absurd (subst T (no-bit 13 (n .hosts (destination n a)) (a % 16) (w .few-hosts (destination n a) (g .held)) l) e)
-          ]
+      port-low t = let g = good-is n a t in delivers-low n w (destination n a) (a % 16) (g .held) (delivers-exactly n (destination n a) (a % 16) .0 (g .port))
 
       pub entry-lt : entry n s i a < 2 ^ 13
       unfolding entry
@@ -103,6 +97,16 @@ module _ (n : Net) where
           go false c g = lit< tt
           go true true g = pow-lt (port-low (g tt))
           go true false g = bits-lt 13 onward
+
+      -- at the destination the addressed port alone
+      pub entry-home : T (attached n s i) → T (good n a) → s ≡ destination n a → entry n s i a ≡ 2 ^ (a % 16)
+      unfolding entry
+      entry-home on g e = go (both (attached n s i) (good n a)) (eqb s (destination n a)) (T-both (attached n s i) (good n a) on g) (eq→eqb s (destination n a) e)
+        where
+          go : (b c : Bool) → T b → T c → pick b c ≡ 2 ^ (a % 16)
+          go false c t u = absurd t
+          go true true t u = refl
+          go true false t u = absurd u
 
       -- no port, so discard
       pub entry-none : ((p : ℕ) → Chosen s i a p → ⊥) → entry n s i a ≡ 0
@@ -126,7 +130,7 @@ module _ (n : Net) where
               let port : leaving n s (n .outPort ch) ≡ ch = rw (l .0 .1) at (leaving-of n w ch (ltb→lt ch (n .channels) (l .0 .0))) in
               bit-pos (entry n s i a) (n .outPort ch) (entry-rule (n .outPort ch) .1 (on, g, inr (λ x. d (eq→eqb s to x), (q, rw port l))))
 
-  -- the rule leaves one number of 16 bits
-  pub determined : (s i a x y : ℕ) → x < 2 ^ 16 → y < 2 ^ 16
-      → ((p : ℕ) → p < 16 → T (bit x p) ↔ Chosen s i a p) → ((p : ℕ) → p < 16 → T (bit y p) ↔ Chosen s i a p) → x ≡ y
-  determined s i a x y h l f g = same-bits 16 x y h l (λ p b. same-test (bit x p) (bit y p) (λ t. g p b .1 (f p b .0 t)) (λ t. f p b .1 (g p b .0 t)))
+-- a set of ports is one number of 16 bits
+pub determined : (Port : ℕ → Type 0) (x y : ℕ) → x < 2 ^ 16 → y < 2 ^ 16
+    → ((p : ℕ) → p < 16 → T (bit x p) ↔ Port p) → ((p : ℕ) → p < 16 → T (bit y p) ↔ Port p) → x ≡ y
+determined Port x y h l f g = same-bits 16 x y h l (λ p b. same-test (bit x p) (bit y p) (λ t. g p b .1 (f p b .0 t)) (λ t. f p b .1 (g p b .0 t)))

@@ -1,31 +1,41 @@
--- Demand 2 on one page: tree, directions, legal routes and entries are as the rules say, of every well-formed net.
-use mathlib.Core.Path.{_≡_, ap, _∙_}
+-- Demand 2 on one page: tree, directions, legal routes, entries and tables are as the rules say, of every well-formed net. The printed plan stands last.
+use mathlib.Core.Path.{_≡_}
 use mathlib.Core.Logic.{_⊎_, _↔_, _≢_}
 use mathlib.Core.Bool.{not}
-use mathlib.Core.List.{List, _∷_, List·Memᴰ}
-use Prim.Native.Nat.{ℕ, suc, _+_, _*_, _≤_, _<_, _^_, pred}
-use native.Mathlib.Omega.{arith}
-use lib.ListN.{length}
+use mathlib.Core.List.{List, [], _∷_, List·Memᴰ}
+use Prim.Native.Nat.{ℕ, suc, _+_, _*_, _%_, _≤_, _<_, _^_}
+use lib.ListN.{getD, length, take, drop}
 use lib.Dec.{T}
 use Rattle.topology.specs.Count.{bit}
 use Rattle.topology.specs.Check.{verdict}
-use Rattle.topology.specs.Net.{Net, WellFormed, netOf, target, inPort, back, delivers}
+use Rattle.topology.specs.Net.{Net, WellFormed, netOf, target, inPort, back, host, delivers, leaving}
+use Rattle.topology.specs.Answers.{done, refused}
+use Rattle.topology.specs.EditRules.{Named}
 use Rattle.topology.proofs.Laws.{accepted-well-formed}
-use Rattle.planner.specs.Tree.{within, joined, root, level, above, up, upEnd, parentChannel}
+use Rattle.planner.specs.Tree.{within, joined, root, level, above, up, upEnd, parentChannel, parentNumber, parentPort}
 use Rattle.planner.specs.Routes.{Arrival, free, bound, after, way, far, legalLength}
-use Rattle.planner.specs.Table.{good, destination, attached, arrival, begins, entry}
-use Rattle.planner.specs.Rules.{Once, Walk, Parent, Legal, Shortest}
-use Rattle.planner.proofs.Walks.{within-walk, walk-within, within-more, within-short, walk-switch, walk-joined, joined-refl, joined-sym, joined-trans}
-use Rattle.planner.proofs.Levels.{level-walk, level-least, root-switch, root-joined, root-lowest, root-same, level-shortest, level-bound, level-root, level-zero, channel-root, level-rise, level-fall}
+use Rattle.planner.specs.Table.{holder, destination, good, attached, arrival, begins, entry, tableOf, tableVerdict, table}
+use Rattle.planner.specs.Rules.{Once, Walk, Parent, Downs, UpThenDown, Legal, Shortest, Leaves, Delivers, Attached, Arrives, Addresses, Good, Holds}
+use Rattle.planner.specs.Printed.{decimal, hex, line, printed}
+use Rattle.planner.proofs.Walks.{within-walk, walk-within, joined-exactly, short-walk, joined-refl, joined-sym, joined-trans}
+use Rattle.planner.proofs.Levels.{root-switch, root-joined, root-lowest, root-same, level-shortest, within-level, level-bound, level-zero, at-root, below-root, channel-root, level-rise, level-fall}
 use Rattle.planner.proofs.Order.{above-T, T-above, up-above, above-irreflexive, above-transitive, above-asymmetric, above-total, up-back}
-use Rattle.planner.proofs.Parents.{parent-is, parent-none, rises-up}
+use Rattle.planner.proofs.Parents.{parent-is, parent-none, one-parent, parent-named, root-named, rises-up}
 use Rattle.planner.proofs.Climbs.{route}
 use Rattle.planner.proofs.Descents.{up-end, bound-descends, legal-once}
 use Rattle.planner.proofs.Heights.{legal-short}
+use Rattle.planner.proofs.UpDown.{free-exactly, bound-exactly}
 use Rattle.planner.proofs.Ways.{way-legal}
 use Rattle.planner.proofs.Lengths.{length-shortest, length-rule, shortest-length, length-here, begins-rule}
-use Rattle.planner.proofs.Addresses.{destination-of, good-rule}
-use Rattle.planner.proofs.Entries.{Chosen, arrives, entry-rule, entry-lt, entry-none, entry-some, determined}
+use Rattle.planner.proofs.Ports.{delivers-exactly, leaves-exactly, attached-exactly, cable-or-out}
+use Rattle.planner.proofs.Addresses.{held-exactly, held-by, good-exactly, addresses-one, address-range}
+use Rattle.planner.proofs.Arrivals.{arrival-inside, attached-arrives, arrives-so}
+use Rattle.planner.proofs.Entries.{arrives, entry-lt, determined}
+use Rattle.planner.proofs.Holding.{holds-exactly, holds-none, unattached-discards, bad-discards, no-way-discards, apart-discards, way-serves, bound-down, home-exactly, own-address, arrival-decides}
+use Rattle.planner.proofs.Tables.{table-length, table-place, table-narrow, table-refused, table-filled}
+use Rattle.planner.proofs.Digits.{Each, decimalValue, hexValue, Digit, HexDigit, Plain, decimal-read, decimal-each, decimal-first, decimal-zero, decimal-plain, hex-length, hex-read, hex-each, hex-plain}
+use Rattle.planner.proofs.Printing.{Line, Lines, line-whole, printed-lines}
+use Rattle.planner.proofs.Sizes.{printed-length}
 
 pub record TreeLaws (n : Net) : Type 0 where
   -- components: switches joined by walks
@@ -50,7 +60,12 @@ pub record TreeLaws (n : Net) : Type 0 where
       → (root n (n .source ch) ≡ root n (target n ch)) × (level n (n .source ch) ≤ suc (level n (target n ch))) × (level n (target n ch) ≤ suc (level n (n .source ch)))
   -- parent: the neighbour one level lower with the lowest UID, by the lowest port; a root has none
   pub parent : (s : ℕ) → s < n .switches → s ≢ root n s → Parent n s (parentChannel n s) × T (up n (parentChannel n s))
+  pub one-parent : (s a b : ℕ) → Parent n s a → Parent n s b → a ≡ b
   pub no-parent : (s : ℕ) → s < n .switches → s ≡ root n s → parentChannel n s < n .channels → ⊥
+  -- the parent's number and the child's port towards it; 0 and 0 for a root
+  pub parent-named : (s : ℕ) → s < n .switches → s ≢ root n s
+      → (parentNumber n s ≡ n .number (target n (parentChannel n s))) × (parentPort n s ≡ n .outPort (parentChannel n s))
+  pub root-named : (s : ℕ) → s < n .switches → s ≡ root n s → (parentNumber n s ≡ 0) × (parentPort n s ≡ 0)
   -- up end: the lower level, at equal levels the lower UID; a strict total order, so each cable has one
   pub above-is : (s t : ℕ) → T (above n s t) ↔ ((level n s < level n t) ⊎ ((level n s ≡ level n t) × (n .uid s < n .uid t)))
   pub up-is : (ch : ℕ) → up n ch ≡ above n (target n ch) (n .source ch)
@@ -64,9 +79,12 @@ pub record TreeLaws (n : Net) : Type 0 where
       ⊎ ((upEnd n c ≡ n .source (2 * c)) × T (above n (n .source (2 * c)) (target n (2 * c))))
 
 pub record RouteLaws (n : Net) : Type 0 where
+  -- a legal route goes up and then down; for a packet that has come down it goes down only
+  pub free-routes : (s t : ℕ) (r : List ℕ) → Legal n free s r t ↔ UpThenDown n s r t
+  pub bound-routes : (s t : ℕ) (r : List ℕ) → Legal n bound s r t ↔ (Downs n r × Walk n s r t)
   -- a legal route from each switch to each other of its component, no longer than the sum of the two levels
   pub some-route : (s t : ℕ) → s < n .switches → T (joined n s t) → (r : List ℕ) × (length r ≤ level n s + level n t) × Legal n free s r t
-  -- legal routes go up and then down in one strict order, cross no channel twice, and are short
+  -- they follow one strict order, cross no channel twice, and are short
   pub bounds-descend : (s t : ℕ) (r : List ℕ) → Legal n bound s r t → (ch : ℕ) → List·Memᴰ ch r → T (above n (n .source ch) (target n ch))
   pub once : (k : Arrival) (s t : ℕ) (r : List ℕ) → Legal n k s r t → Once r
   pub no-longer : (k : Arrival) (s t : ℕ) (r : List ℕ) → Legal n k s r t → length r + 2 ≤ far n
@@ -79,38 +97,89 @@ pub record RouteLaws (n : Net) : Type 0 where
   pub length-at-home : (k : Arrival) (t : ℕ) → legalLength n k t t ≡ 0
   pub beginning : (k : Arrival) (s t ch : ℕ) → n .source ch ≡ s → T (begins n k s t ch) ↔ ((r : List ℕ) × Shortest n k s (ch ∷ r) t)
 
+pub record PortLaws (n : Net) : Type 0 where
+  -- a number is held exactly if some switch has it, and by that switch
+  pub held : (k : ℕ) → (holder n k < n .switches) ↔ ((s : ℕ) × (s < n .switches) × (n .number s ≡ k))
+  pub held-by : (k s : ℕ) → s < n .switches → n .number s ≡ k → holder n k ≡ s
+  -- a good address names one switch and one port of it, which is 0 or a host port; it is from 16 to 1,039
+  pub good-addresses : (a : ℕ) → T (good n a) ↔ Good n a
+  pub names-one : (a t q : ℕ) → Addresses n a t q → (t ≡ destination n a) × (q ≡ a % 16)
+  pub in-range : (a t q : ℕ) → Addresses n a t q → (16 ≤ a) × (a ≤ 1039)
+  -- port 0 and host ports deliver; a channel leaves by a port that does not, and one at most; attached is a port of either kind
+  pub delivering : (s p : ℕ) → T (delivers n s p) ↔ Delivers n s p
+  pub leaving-by : (s p c : ℕ) → Leaves n s p c ↔ ((leaving n s p ≡ c) × (c < n .channels))
+  pub cable-or-out : (s p c : ℕ) → Leaves n s p c → Delivers n s p → ⊥
+  pub attaching : (s i : ℕ) → T (attached n s i) ↔ Attached n s i
+  -- by an attached port packets arrive in one way: free from port 0 and host ports, over a cable as the crossing says
+  pub arriving : (s i : ℕ) → Attached n s i → Arrives n s i (arrival n s i)
+  pub one-arrival : (s i : ℕ) (k : Arrival) → Arrives n s i k → Attached n s i × (k ≡ arrival n s i)
+  pub free-inside : (s i : ℕ) → Delivers n s i → arrival n s i ≡ free
+  pub over-cables : (ch : ℕ) → ch < n .channels → arrival n (target n ch) (inPort n ch) ≡ after (up n ch)
+
 pub record EntryLaws (n : Net) : Type 0 where
   -- an entry is exactly the set that the rules say, and they leave one number
-  pub holds : (s i a p : ℕ) → T (bit (entry n s i a) p) ↔ Chosen n s i a p
+  pub holds : (s i a p : ℕ) → T (bit (entry n s i a) p) ↔ Holds n s i a p
   pub no-other-bits : (s i a : ℕ) → entry n s i a < 2 ^ 13
   pub one-entry : (s i a x y : ℕ) → x < 2 ^ 16 → y < 2 ^ 16
-      → ((p : ℕ) → p < 16 → T (bit x p) ↔ Chosen n s i a p) → ((p : ℕ) → p < 16 → T (bit y p) ↔ Chosen n s i a p) → x ≡ y
-  -- 0 where no port is held; above 0 wherever a legal remainder exists
-  pub discards : (s i a : ℕ) → ((p : ℕ) → Chosen n s i a p → ⊥) → entry n s i a ≡ 0
-  pub serves : (s i a : ℕ) → T (attached n s i) → T (good n a) → (r : List ℕ) → Legal n (arrival n s i) s r (destination n a) → 0 < entry n s i a
-  -- an address names the switch that holds its number; good exactly for port 0 or a host port of that switch
-  pub addressed : (s p : ℕ) → s < n .switches → p < 16 → destination n (16 * n .number s + p) ≡ s
-  pub good-addresses : (a : ℕ) → T (good n a) ↔ ((s : ℕ) × (p : ℕ) × (s < n .switches) × (p < 16) × T (delivers n s p) × (a ≡ 16 * n .number s + p))
-  -- over a cable packets arrive as the crossing says
-  pub arriving : (ch : ℕ) → ch < n .channels → arrival n (target n ch) (inPort n ch) ≡ after (up n ch)
+      → ((p : ℕ) → p < 16 → T (bit x p) ↔ Holds n s i a p) → ((p : ℕ) → p < 16 → T (bit y p) ↔ Holds n s i a p) → x ≡ y
+  -- above 0 wherever a legal remainder exists; 0 where no port is held
+  pub serves : (s i a t q : ℕ) (k : Arrival) → Arrives n s i k → Addresses n a t q → (r : List ℕ) → Legal n k s r t → 0 < entry n s i a
+  pub discards : (s i a : ℕ) → ((p : ℕ) → Holds n s i a p → ⊥) → entry n s i a ≡ 0
+  -- so 0 for an unattached port, for an address that is not good, for another component, and where no legal remainder exists
+  pub unattached : (s i a : ℕ) → (Attached n s i → ⊥) → entry n s i a ≡ 0
+  pub not-good : (s i a : ℕ) → (Good n a → ⊥) → entry n s i a ≡ 0
+  pub apart : (s i a t q : ℕ) → Addresses n a t q → T (not (joined n s t)) → entry n s i a ≡ 0
+  pub no-way : (s i a t q : ℕ) (k : Arrival) → Arrives n s i k → Addresses n a t q → ((r : List ℕ) → Legal n k s r t → ⊥) → entry n s i a ≡ 0
+  -- what has come down never goes up again
+  pub never-up : (s i a p c : ℕ) → Arrives n s i bound → T (bit (entry n s i a) p) → Leaves n s p c → T (not (up n c))
+  -- at the destination the addressed port alone; what a host sends to its own address comes back to it
+  pub at-home : (s i a q : ℕ) → Attached n s i → Addresses n a s q → entry n s i a ≡ 2 ^ q
+  pub to-itself : (s q : ℕ) → s < n .switches → T (host n s q) → entry n s q (16 * n .number s + q) ≡ 2 ^ q
+  -- of the incoming port only the arrival counts
+  pub by-arrival : (s i j a : ℕ) (k : Arrival) → Arrives n s i k → Arrives n s j k → entry n s i a ≡ entry n s j a
+
+pub record TableLaws (n : Net) : Type 0 where
+  -- 13 rows of 1,040 entries of 16 bits, the one for incoming port i and address a at place 1,040 × i + a
+  pub size : (s : ℕ) → length (tableOf n s) ≡ 13520
+  pub places : (s i a : ℕ) → i < 13 → a < 1040 → getD (tableOf n s) (1040 * i + a) 0 ≡ entry n s i a
+  pub narrow : (s j : ℕ) → getD (tableOf n s) j 0 < 2 ^ 16
+
+-- The job that writes a table, where `out` is lent. Refused, it changes nothing.
+pub refused-table : (d : List ℕ) (u : ℕ) (out : List ℕ) → tableVerdict d u (length out) .number ≢ 0
+    → table d u out ≡ record { reply = refused (tableVerdict d u (length out)); out = out }
+refused-table = table-refused
+
+-- Otherwise the table of the switch with UID u stands at the start, and the rest is as it was.
+pub written-table : (d : List ℕ) (u : ℕ) (out : List ℕ) → tableVerdict d u (length out) .number ≡ 0
+    → let later = table d u out in (later .reply ≡ done 0) × (length (later .out) ≡ length out) × (drop 13520 (later .out) ≡ drop 13520 out)
+    × ((i : ℕ) × Named d u i × (take 13520 (later .out) ≡ tableOf (netOf d) i))
+written-table = table-filled
+
+-- Printed numbers and lines; Digits.antt and Printing.antt say what the words mean.
+pub record PrintLaws : Type 0 where
+  -- decimal numbers read back, in the digits 0 to 9, with no zero before other digits
+  pub decimal-reads : (x : ℕ) → decimalValue (decimal x) ≡ x
+  pub decimal-digits : (x : ℕ) → Each Digit (decimal x)
+  pub decimal-shortest : (x : ℕ) → getD (decimal x) 0 0 ≡ 48 → x ≡ 0
+  pub decimal-of-0 : decimal 0 ≡ 48 ∷ []
+  -- k hex digits are k of 0 to 9 and a to f, and read back
+  pub hex-size : (k x : ℕ) → length (hex k x) ≡ k
+  pub hex-digits : (k x : ℕ) → Each HexDigit (hex k x)
+  pub hex-reads : (k x : ℕ) → x < 16 ^ k → hexValue (hex k x) ≡ x
+  -- no number has a space or a newline; a word and fields without them make one line, which has its one newline at its end
+  pub decimal-plain : (x : ℕ) → Each Plain (decimal x)
+  pub hex-plain : (k x : ℕ) → Each Plain (hex k x)
+  pub one-line : (word : List ℕ) (fs : List (List ℕ)) → Each Plain word → Each (Each Plain) fs → Line (line word fs)
+  -- whatever is read, what is printed is whole lines, and at most 5,452 characters
+  pub whole-lines : (d : List ℕ) → Lines (printed d)
+  pub short : (d : List ℕ) → length (printed d) ≤ 5452
 
 module _ (n : Net) (w : WellFormed n) where
-  at-root : (s : ℕ) → s < n .switches → s ≡ root n s → level n s ≡ 0
-  at-root s h e = ap (level n) e ∙ level-root n w s h
-
-  below-root : (s : ℕ) → s < n .switches → s ≢ root n s → 0 < level n s
-  below-root s h d = let z : level n s ≡ 0 → ⊥ = λ e. d (level-zero n w s h e) in omega arith
-
   pub tree-laws : TreeLaws n
   tree-laws = record {
     within-walks = λ m s t. (within-walk n m s t, walk-within n m s t);
-    joined-walks = λ s t h. (
-      λ j. let v = within-walk n (n .switches) s t j in (v .0, v .2),
-      λ r. walk-joined n w (length (r .0)) s t h (r .0, omega arith, r .1),
-    );
-    short-walks = λ s t r h p.
-        let v = within-short n w (length r) (pred (n .switches)) s t h (walk-switch n w s t r h p) (omega arith) (r, omega arith, p) in
-        (v .0, omega arith, v .2);
+    joined-walks = joined-exactly n w;
+    short-walks = short-walk n w;
     reflexive = joined-refl n w;
     symmetric = joined-sym n w;
     transitive = joined-trans n w;
@@ -119,15 +188,15 @@ module _ (n : Net) (w : WellFormed n) where
     root-has-lowest = root-lowest n w;
     one-root = root-same n w;
     level-is-shortest = level-shortest n w;
-    within-level = λ s k h. (
-      λ t. level-least n w s k h (within-walk n k s (root n s) t),
-      λ l. walk-within n k s (root n s) (within-more n (level n s) k s (root n s) l (level-walk n w s h)),
-    );
+    within-level = within-level n w;
     level-small = level-bound n w;
-    level-of-root = λ s h. (level-zero n w s h, at-root s h);
+    level-of-root = λ s h. (level-zero n w s h, at-root n w s h);
     across = λ ch h. (channel-root n w ch h, level-rise n w ch h, level-fall n w ch h);
-    parent = λ s h d. let p = parent-is n w s h (below-root s h d) in (p, rises-up n w s (parentChannel n s) (p .rising));
-    no-parent = λ s h e. parent-none n w s (at-root s h e);
+    parent = λ s h d. let p = parent-is n w s h (below-root n w s h d) in (p, rises-up n w s (parentChannel n s) (p .rising));
+    one-parent = one-parent n w;
+    no-parent = λ s h e. parent-none n w s (at-root n w s h e);
+    parent-named = λ s h d. parent-named n w s h (below-root n w s h d);
+    root-named = λ s h e. root-named n w s (at-root n w s h e);
     above-is = λ s t. (above-T n s t, T-above n s t);
     up-is = up-above n;
     never-above-itself = above-irreflexive n;
@@ -140,6 +209,8 @@ module _ (n : Net) (w : WellFormed n) where
 
   pub route-laws : RouteLaws n
   route-laws = record {
+    free-routes = free-exactly n;
+    bound-routes = bound-exactly n;
     some-route = route n w;
     bounds-descend = λ s t r p ch m. bound-descends n w s t r p ch m .0;
     once = legal-once n w;
@@ -152,18 +223,62 @@ module _ (n : Net) (w : WellFormed n) where
     beginning = λ k s t ch e. begins-rule n w k s t ch (λ l. e);
   }
 
+  pub port-laws : PortLaws n
+  port-laws = record {
+    held = held-exactly n w;
+    held-by = held-by n w;
+    good-addresses = good-exactly n w;
+    names-one = addresses-one n w;
+    in-range = address-range n w;
+    delivering = delivers-exactly n;
+    leaving-by = leaves-exactly n w;
+    cable-or-out = cable-or-out n w;
+    attaching = attached-exactly n w;
+    arriving = attached-arrives n w;
+    one-arrival = arrives-so n w;
+    free-inside = arrival-inside n w;
+    over-cables = arrives n w;
+  }
+
   pub entry-laws : EntryLaws n
   entry-laws = record {
-    holds = entry-rule n w;
+    holds = holds-exactly n w;
     no-other-bits = entry-lt n w;
-    one-entry = determined n;
-    discards = entry-none n w;
-    serves = entry-some n w;
-    addressed = destination-of n w;
-    good-addresses = good-rule n w;
-    arriving = arrives n w;
+    one-entry = λ s i a. determined (Holds n s i a);
+    serves = way-serves n w;
+    discards = holds-none n w;
+    unattached = unattached-discards n w;
+    not-good = bad-discards n w;
+    apart = apart-discards n w;
+    no-way = no-way-discards n w;
+    never-up = bound-down n w;
+    at-home = home-exactly n w;
+    to-itself = own-address n w;
+    by-arrival = arrival-decides n w;
   }
+
+  pub table-laws : TableLaws n
+  table-laws = record { size = table-length n; places = table-place n; narrow = table-narrow n w }
 
 -- every accepted description's net has them all
 pub demand-2 : (d : List ℕ) → verdict d .number ≡ 0 → TreeLaws (netOf d) × RouteLaws (netOf d) × EntryLaws (netOf d)
 demand-2 d e = let w = accepted-well-formed d e in (tree-laws (netOf d) w, route-laws (netOf d) w, entry-laws (netOf d) w)
+
+pub demand-2-tables : (d : List ℕ) → verdict d .number ≡ 0 → PortLaws (netOf d) × TableLaws (netOf d)
+demand-2-tables d e = let w = accepted-well-formed d e in (port-laws (netOf d) w, table-laws (netOf d) w)
+
+pub print-laws : PrintLaws
+print-laws = record {
+  decimal-reads = decimal-read;
+  decimal-digits = decimal-each;
+  decimal-shortest = decimal-first;
+  decimal-of-0 = decimal-zero;
+  hex-size = hex-length;
+  hex-digits = hex-each;
+  hex-reads = hex-read;
+  decimal-plain = decimal-plain;
+  hex-plain = hex-plain;
+  one-line = line-whole;
+  whole-lines = printed-lines;
+  short = printed-length;
+}

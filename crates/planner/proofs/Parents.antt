@@ -1,15 +1,16 @@
 -- The channel to the parent.
 use mathlib.Core.Path.{_≡_, ap, sym, _∙_}
 use mathlib.Core.Logic.{inl, inr}
+use mathlib.Core.Bool.{not}
 use mathlib.Core.List.{[], _∷_}
 use Prim.Native.Nat.{ℕ, suc, _<_}
 use native.Mathlib.Omega.{arith}
 use lib.ListN.{length}
-use lib.Dec.{T, eqb, eqb→eq, ltb→lt}
-use Rattle.topology.specs.Net.{Net, WellFormed, target}
-use Rattle.planner.specs.Tree.{root, level, up, rises, preferred, parentChannel}
+use lib.Dec.{T, eqb, eqb→eq, ltb→lt, lt→ltb, not-T}
+use Rattle.topology.specs.Net.{Net, WellFormed, target, live}
+use Rattle.planner.specs.Tree.{root, level, up, rises, preferred, parentChannel, parentNumber, parentPort}
 use Rattle.planner.specs.Rules.{Rises, Parent}
-use Rattle.topology.proofs.Tests.{split, both-T, T-both, eq→eqb}
+use Rattle.topology.proofs.Tests.{split, both-T, T-both, eq→eqb, cond-is, cond-not}
 use Rattle.topology.proofs.Lex.{lex-T, T-lex, lex-irreflexive, lex-transitive}
 use Rattle.topology.proofs.Searches.{First, first-is, first-found}
 use Rattle.topology.proofs.Channels.{target-switch}
@@ -86,3 +87,29 @@ module _ (n : Net) where
     pub rises-up : (s ch : ℕ) → Rises n s ch → T (up n ch)
     unfolding up
     rises-up s ch r = T-above n (target n ch) (n .source ch) (inl (omega (arith, ap (level n) (r .starts), r .lower)))
+
+    -- the rules leave one channel for the parent
+    pub one-parent : (s a b : ℕ) → Parent n s a → Parent n s b → a ≡ b
+    one-parent s a b p q =
+        let x = p .rising in
+        let y = q .rising in
+        let near = w .uids-differ (target n a) (target n b) (target-switch n w a (x .is-live)) (target-switch n w b (y .is-live))
+        (omega (arith, p .lowest b y, q .lowest a x)) in
+        w .ports-differ a b (x .is-live) (y .is-live) (x .starts ∙ sym (y .starts))
+        (omega (arith, p .lowest-port b y (sym near), q .lowest-port a x near))
+
+    -- the parent's number and the child's port, as printed and asked for
+    pub parent-named : (s : ℕ) → s < n .switches → 0 < level n s
+        → (parentNumber n s ≡ n .number (target n (parentChannel n s))) × (parentPort n s ≡ n .outPort (parentChannel n s))
+    unfolding parentNumber parentPort
+    parent-named s h l = (cond-is (live n (parentChannel n s)) _ _ there, cond-is (live n (parentChannel n s)) _ _ there)
+      where
+        there : T (live n (parentChannel n s))
+        there = lt→ltb (parentChannel n s) (n .channels) (parent-is s h l .rising .is-live)
+
+    pub root-named : (s : ℕ) → level n s ≡ 0 → (parentNumber n s ≡ 0) × (parentPort n s ≡ 0)
+    unfolding parentNumber parentPort
+    root-named s e = (cond-not (live n (parentChannel n s)) _ _ none, cond-not (live n (parentChannel n s)) _ _ none)
+      where
+        none : T (not (live n (parentChannel n s)))
+        none = not-T (live n (parentChannel n s)) (λ t. parent-none s e (ltb→lt (parentChannel n s) (n .channels) t))

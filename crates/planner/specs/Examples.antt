@@ -9,7 +9,7 @@ use Rattle.topology.specs.Check.{verdict, switchesFrom, cablesFrom}
 use Rattle.topology.specs.Net.{Net, netOf, leaving}
 use Rattle.topology.specs.Edit.{find, records}
 use Rattle.topology.specs.Case.{Case, case, allRight, shown}
-use Rattle.topology.specs.Samples.{r5, one, pair, triangle, twins}
+use Rattle.topology.specs.Samples.{r5, one, pair, triangle, twins, diamond}
 use Rattle.planner.specs.Tree.{within, root, level, above, up, parentChannel, upEnd, parentNumber, parentPort}
 use Rattle.planner.specs.Routes.{free, bound, way, legalLength}
 use Rattle.planner.specs.Table.{holder, arrival, begins, entry, entryAt, tableVerdict}
@@ -31,12 +31,14 @@ trees =
     ∷ case 4 (upEnd (netOf triangle) 2 ∷ netOf triangle .number 1 ∷ netOf triangle .number 2 ∷ []) (2 ∷ 3 ∷ 2 ∷ [])
     -- of two cables to the parent the one at the child's lowest port
     ∷ case 5 (parentPort (netOf pair) 1 ∷ parentPort (netOf (set (set pair 28 2) 32 1)) 1 ∷ []) (1 ∷ 1 ∷ [])
+    -- of two neighbours one level lower the one of lowest UID, not of lowest record or port; both begin a shortest route to the root
+    ∷ case 6 (parentNumber (netOf diamond) 3 ∷ parentPort (netOf diamond) 3 ∷ entry (netOf diamond) 3 0 16 ∷ []) (2 ∷ 2 ∷ 6 ∷ [])
     -- two components: each root is the lowest by all 48 bits of its UID
-    ∷ case 6 (root (netOf twins) 0 ∷ root (netOf twins) 1 ∷ root (netOf twins) 2 ∷ level (netOf twins) 2 ∷ parentNumber (netOf twins) 2 ∷ []) (0 ∷ 1 ∷ 1 ∷ 1 ∷ 1 ∷ [])
+    ∷ case 7 (root (netOf twins) 0 ∷ root (netOf twins) 1 ∷ root (netOf twins) 2 ∷ level (netOf twins) 2 ∷ parentNumber (netOf twins) 2 ∷ []) (0 ∷ 1 ∷ 1 ∷ 1 ∷ 1 ∷ [])
     ∷ []
 
 pub trees-right : allRight trees ≡ true
-unfolding trees r5 pair triangle twins netOf within root level above up parentChannel upEnd parentNumber parentPort any least first count
+unfolding trees r5 pair triangle twins diamond netOf leaving within root level above up parentChannel upEnd parentNumber parentPort way legalLength holder arrival begins entry any least first count bits
 trees-right = refl
 
 -- the entry at record s

@@ -1,7 +1,7 @@
 -- Calls on words and on records follow the machine over what the channels hold.
 use Prim.Native.Nat.{ℕ, _≤_}
 use mathlib.Core.List.{List, [], _∷_, map}
-use mathlib.Core.Bool.{Bool, cond, not}
+use mathlib.Core.Bool.{Bool, true, false, cond, not}
 use mathlib.Core.Path.{_≡_, refl, sym, _∙_, ap}
 use mathlib.Core.Logic.{_⊎_, inl, inr}
 use lib.ListN.{length, length-map, take}
@@ -115,3 +115,28 @@ module _ (d : List ℕ) where
   -- demand 3 of calls on records that keep d
   pub records-drain : verdict d .number ≡ 0 → Drains n calls (λ r. cellsOf (r .words)) Keeping
   records-drain ok = drains-too calls (callsOn d) (λ r. r .words) Keeping follows-record n cellsOf On (λ r k. record-parts r k .1) (words-drain ok)
+
+-- 17 on a record that is not sound, and it stays as it was
+pub unsound-record : (r : Rehearsal) (o : Order) → T (not (soundRecord r)) → call r o ≡ gives (refused 17) r
+unfolding call
+unsound-record r o t = go (leb (r .size) 2057) (soundOn (descriptionOf r) (r .words)) t (unsound-on (descriptionOf r) (r .words) o)
+  where
+    c : Called (List ℕ)
+    c = callOn (descriptionOf r) (r .words) o
+
+    go : (a b : Bool) → T (not (both a b)) → (T (not b) → c ≡ gives (refused 17) (r .words)) → cond a (gives (c .answer) (withWords r (c .lent))) (gives (refused 17) r) ≡ gives (refused 17) r
+    go true true t f = absurd t
+    go true false t f = ap (λ (x : Called (List ℕ)). gives (x .answer) (withWords r (x .lent))) (f tt)
+    go false b t f = refl
+
+-- a call never touches the description that a record keeps
+pub description-stays : (r : Rehearsal) (o : Order) → (call r o .lent .bytes ≡ r .bytes) × (call r o .lent .size ≡ r .size)
+unfolding call
+description-stays r o = go (leb (r .size) 2057)
+  where
+    c : Called (List ℕ)
+    c = callOn (descriptionOf r) (r .words) o
+
+    go : (a : Bool) → let x = cond a (gives (c .answer) (withWords r (c .lent))) (gives (refused 17) r) in (x .lent .bytes ≡ r .bytes) × (x .lent .size ≡ r .size)
+    go true = (refl, refl)
+    go false = (refl, refl)

@@ -1,5 +1,5 @@
 -- Placing and advancing are accepted exactly as the rules say.
-use Prim.Native.Nat.{ℕ}
+use Prim.Native.Nat.{ℕ, _<_}
 use mathlib.Core.List.{List, [], _∷_}
 use mathlib.Core.Bool.{Bool, true, false, cond, not}
 use mathlib.Core.Path.{_≡_, refl, sym, _∙_, ap}
@@ -7,13 +7,27 @@ use mathlib.Core.Logic.{_⊎_, inl, inr, _↔_}
 use lib.ListN.{getD}
 use lib.Dec.{T, lt→ltb}
 use Rattle.topology.specs.Net.{Net, target, leaving, live, delivers}
-use Rattle.planner.specs.Table.{holder}
+use Rattle.planner.specs.Table.{holder, good}
 use Rattle.rehearsal.specs.Packets.{Cell, none, packet, Full, addressOf}
 use Rattle.rehearsal.specs.Answers.{Answer, moved, delivered, isAccepted, placing, advancing}
 use Rattle.rehearsal.specs.Moves.{Tables, onward, allows, needs, moving, placeAnswer, advanceAnswer, headAnswer, taken?}
-use Rattle.rehearsal.specs.Rules.{MayPlace, MayAdvance}
 use Rattle.topology.proofs.Tests.{T-both, cond-is, cond-not}
 use Rattle.rehearsal.proofs.Effects.{Effect, stays, placed, goes, leaves, effect}
+
+module _ (n : Net) (holds : Tables) (held : List Cell) where
+  pub record MayPlace (k a p : ℕ) : Type 0 where
+    pub switch : holder n k < n .switches
+    pub address : T (good n a)
+    pub held-port : T (holds (holder n k) 0 a p)
+    pub cable : leaving n (holder n k) p < n .channels
+    pub next-empty : T (not (taken? held (leaving n (holder n k) p)))
+
+  -- a channel that holds a head, a port that its entry holds, and that port leaves the net or the next channel is free
+  pub record MayAdvance (ch p : ℕ) : Type 0 where
+    pub channel : ch < n .channels
+    pub head : Full (getD held ch none)
+    pub held-port : T (allows n holds ch (addressOf (getD held ch none)) p)
+    pub room : T (delivers n (target n ch) p) ⊎ (T (not (delivers n (target n ch) p)) × T (not (taken? held (onward n ch p))))
 
 needs-is : (b : Bool) (r : ℕ) (x : Answer) → T b → needs b r x ≡ x
 unfolding needs

@@ -1,102 +1,119 @@
--- Placing and advancing on a record, on one page. Demand 3 stands in specs/Drains.antt and is proved in Demand3.antt.
+-- Demand 3 and the calls on one page: starting, placing, advancing, and that packets drain.
 use Prim.Native.Nat.{ℕ}
-use mathlib.Core.List.{List, _∷_, []}
-use mathlib.Core.Bool.{Bool, not}
-use mathlib.Core.Path.{_≡_, refl}
+use mathlib.Core.List.{List}
+use mathlib.Core.Bool.{not}
+use mathlib.Core.Path.{_≡_, refl, ap, _∙_}
 use mathlib.Core.Logic.{_↔_, _⊎_, inl, inr}
-use lib.ListN.{length}
-use lib.Dec.{T, eqb, eqb→eq}
-use Rattle.topology.specs.Count.{both}
-use Rattle.topology.specs.Check.{verdict}
-use Rattle.topology.specs.Net.{Net, netOf}
-use Rattle.topology.proofs.Tests.{both-T, T-both, eq→eqb, or-not, cond-is, cond-not}
-use Rattle.rehearsal.specs.Machine.{last}
-use Rattle.rehearsal.specs.Packets.{Cell}
-use Rattle.rehearsal.specs.Answers.{Answer, refused, isAccepted, Order, placing, advancing}
-use Rattle.rehearsal.specs.Moves.{moving, rehearsal, settle, entries}
-use Rattle.rehearsal.specs.Sound.{soundHeld}
-use Rattle.rehearsal.specs.Drains.{Sound}
-use Rattle.rehearsal.specs.Rules.{MayPlace, MayAdvance}
-use Rattle.rehearsal.proofs.Exactly.{place-exactly, advance-exactly}
-use Rattle.rehearsal.proofs.Demand3.{demand-3}
+use lib.ListN.{length, replicate}
+use lib.Dec.{T, not-T, leb}
+use Rattle.topology.specs.Check.{accepted, verdict}
+use Rattle.topology.specs.Net.{netOf}
+use Rattle.topology.specs.Refusals.{Returned}
+use Rattle.topology.proofs.Tests.{both-T, or-not}
+use Rattle.rehearsal.specs.Packets.{cellsOf, nothing}
+use Rattle.rehearsal.specs.Answers.{Order, Answer, refused, isAccepted, verdictOf}
+use Rattle.rehearsal.specs.Moves.{rehearsal}
+use Rattle.rehearsal.specs.Record.{Called, gives, soundOn, callOn, callsOn, Rehearsal, descriptionOf, soundRecord, call, calls, begun, start}
+use Rattle.rehearsal.specs.Rules.{SoundOn, SoundRecord, Does, OrderWrong}
+use Rattle.rehearsal.specs.Drains.{Drains}
+use Rattle.rehearsal.proofs.Simulation.{drains-under}
+use Rattle.rehearsal.proofs.Calls.{obeyed, unsound-on, cells-on, on-record, unsound-record, description-stays, words-drain, records-drain, Keeping}
+use Rattle.rehearsal.proofs.Starts.{start-begins, start-refused, begun-description, begun-room, begun-words, begun-keeping, begun-empty}
+use Rattle.rehearsal.proofs.Fitness.{sound-exactly, record-exactly}
+use Rattle.rehearsal.proofs.Doing.{does-so, refused-stays}
+use Rattle.rehearsal.proofs.Refusing.{words-returned, record-returned}
 
-pub record Calls (d : List ℕ) (held : List Cell) : Type 0 where
-  -- a sound record is what demand 3 speaks of
-  pub sound-is : T (soundRecord d held) ↔ ((verdict d .number ≡ 0) × Sound (netOf d) held)
-  -- 17 exactly where the record is not sound, and any refusal changes nothing
-  pub unsound-first : T (not (soundRecord d held)) → (o : Order) → call d held o ≡ (refused unsound, held)
-  pub refusal-keeps : (o : Order) → T (not (isAccepted (call d held o .0))) → call d held o .1 ≡ held
-  -- a sound record stays sound
-  pub stays-sound : (o : Order) → T (soundRecord d held) → T (soundRecord d (call d held o .1))
-  -- accepted exactly as document 01 says
-  pub places : (k a p : ℕ) → T (isAccepted (call d held (placing k a p) .0)) ↔ (T (soundRecord d held) × MayPlace (netOf d) (entries (netOf d)) held k a p)
-  pub advances : (ch p : ℕ) → T (isAccepted (call d held (advancing ch p) .0)) ↔ (T (soundRecord d held) × MayAdvance (netOf d) (entries (netOf d)) held ch p)
+-- Starting a rehearsal of description d.
+pub record StartLaws (d : List ℕ) : Type 0 where
+  -- on any record: accepted where checking accepts, and then begun; else what checking says, and the record as it was
+  pub begins : verdict d .number ≡ 0 → (r : Rehearsal) → start d r ≡ record { verdict = accepted; lent = begun d }
+  pub refuses : (verdict d .number ≡ 0 → ⊥) → (r : Rehearsal) → start d r ≡ record { verdict = verdict d; lent = r }
+  -- a record just begun is sound, keeps d, and every channel is empty
+  pub sound : verdict d .number ≡ 0 → SoundRecord (begun d)
+  pub keeps : verdict d .number ≡ 0 → descriptionOf (begun d) ≡ d
+  pub room : verdict d .number ≡ 0 → length (begun d .bytes) ≡ 2057
+  pub empty : begun d .words ≡ replicate 768 0
 
-settled : (n : Net) (held : List Cell) (x : Answer) (o : Order) → T (not (isAccepted x)) → settle held x o ≡ held
-settled n held (Answer.moved c) o t = absurd t
-settled n held (Answer.delivered p) o t = absurd t
-settled n held (refused r) o t = refl
+-- One order on the words of the channels, with the description beside them.
+pub record WordLaws (d words : List ℕ) : Type 0 where
+  -- the test for soundness is the rule
+  pub sound-is : T (soundOn d words) ↔ SoundOn d words
+  -- the answer is the first refusal that applies, 17 to 22, or none
+  pub refusal : (o : Order) → Returned (OrderWrong (SoundOn d words) (netOf d) words o) (verdictOf (callOn d words o .answer))
+  -- on sound words an order does what the rules say; on others it changes nothing
+  pub does : SoundOn d words → (o : Order) → Does (netOf d) words o (callOn d words o .answer) (callOn d words o .lent)
+  pub unsound-stays : (SoundOn d words → ⊥) → (o : Order) → callOn d words o ≡ gives (refused 17) words
+  -- it is the machine's answer and the machine's next state
+  pub same-answer : SoundOn d words → (o : Order) → callOn d words o .answer ≡ rehearsal (netOf d) .answer (cellsOf words) o
+  pub same-next : SoundOn d words → (o : Order) → cellsOf (callOn d words o .lent) ≡ rehearsal (netOf d) .next (cellsOf words) o
 
-sound-rule : (d : List ℕ) (held : List Cell) → T (soundRecord d held) ↔ ((verdict d .number ≡ 0) × Sound (netOf d) held)
-sound-rule d held = (out, λ s. T-both fine all (eq→eqb (verdict d .number) 0 (s .0)) (T-both long each (eq→eqb (length held) 768 (s .1 .0)) (s .1 .1)))
-  where
-    fine : Bool
-    fine = eqb (verdict d .number) 0
+-- The same on a record.
+pub record RecordLaws (r : Rehearsal) : Type 0 where
+  pub sound-is : T (soundRecord r) ↔ SoundRecord r
+  pub refusal : (o : Order) → Returned (OrderWrong (SoundRecord r) (netOf (descriptionOf r)) (r .words) o) (verdictOf (call r o .answer))
+  pub does : SoundRecord r → (o : Order) → Does (netOf (descriptionOf r)) (r .words) o (call r o .answer) (call r o .lent .words)
+  pub unsound-stays : (SoundRecord r → ⊥) → (o : Order) → call r o ≡ gives (refused 17) r
+  -- a refusal changes nothing, and no call touches the description
+  pub refused-changes-nothing : (o : Order) → T (not (isAccepted (call r o .answer))) → call r o .lent ≡ r
+  pub keeps-description : (o : Order) → (call r o .lent .bytes ≡ r .bytes) × (call r o .lent .size ≡ r .size)
 
-    long : Bool
-    long = eqb (length held) 768
+pub start-laws : (d : List ℕ) → StartLaws d
+start-laws d = record {
+  begins = start-begins d;
+  refuses = start-refused d;
+  sound = λ ok. record-exactly (begun d) .0 (begun-keeping d ok .0);
+  keeps = begun-description d;
+  room = begun-room d;
+  empty = begun-words d;
+}
 
-    each : Bool
-    each = soundHeld (netOf d) held
+pub word-laws : (d words : List ℕ) → WordLaws d words
+word-laws d words =
+    let test = sound-exactly d words in
+    record {
+      sound-is = test;
+      refusal = words-returned d words;
+      does = λ s o. does-so d words o (test .1 s);
+      unsound-stays = λ u o. unsound-on d words o (not-T (soundOn d words) (λ t. u (test .0 t)));
+      same-answer = λ s o. ap (λ (c : Called (List ℕ)). c .answer) (obeyed d words o (test .1 s));
+      same-next = λ s o. cells-on d words o (test .1 s);
+    }
 
-    all : Bool
-    all = both long each
+module _ (r : Rehearsal) where
+  kept : T (soundRecord r) → T (soundOn (descriptionOf r) (r .words))
+  kept t = both-T (leb (r .size) 2057) (soundOn (descriptionOf r) (r .words)) t .1
 
-    out : T (soundRecord d held) → (verdict d .number ≡ 0) × Sound (netOf d) held
-    out t =
-        let p = both-T fine all t in
-        let q = both-T long each (p .1) in
-        (eqb→eq (verdict d .number) 0 (p .0), (eqb→eq (length held) 768 (q .0), q .1))
-
-module _ (d : List ℕ) (held : List Cell) where
-  abbrev ok : Bool
-  ok = soundRecord d held
-
-  on-sound : T ok → (o : Order) → call d held o ≡ (rehearsal (netOf d) .answer held o, rehearsal (netOf d) .next held o)
-  on-sound t o = cond-is ok _ _ t
-
-  on-unsound : T (not ok) → (o : Order) → call d held o ≡ (refused unsound, held)
-  on-unsound t o = cond-not ok _ _ t
-
-  refusal : (o : Order) → T (not (isAccepted (call d held o .0))) → call d held o .1 ≡ held
-  unfolding rehearsal moving
-  refusal o t = go (or-not ok)
+  as-before : (o : Order) → T (not (isAccepted (call r o .answer))) → call r o .lent ≡ r
+  as-before o n = go (or-not (soundRecord r))
     where
-      go : T ok ⊎ T (not ok) → call d held o .1 ≡ held
-      go (inl s) = rw (on-sound s o) (settled (netOf d) held (rehearsal (netOf d) .answer held o) o (rw (on-sound s o) at t))
-      go (inr u) = rw (on-unsound u o) refl
+      go : T (soundRecord r) ⊎ T (not (soundRecord r)) → call r o .lent ≡ r
+      go (inr t) = rw (unsound-record r o t) refl
+      go (inl t) =
+          let same = refused-stays (does-so (descriptionOf r) (r .words) o (kept t)) (rw (on-record (descriptionOf r) r o (t, refl)) at n) in
+          rw (on-record (descriptionOf r) r o (t, refl), same) refl
 
-  stays : (o : Order) → T ok → T (soundRecord d (call d held o .1))
-  unfolding last
-  stays o t =
-      let s = sound-rule d held .0 t in
-      let kept = sound-rule d (rehearsal (netOf d) .next held o) .1 (s .0, demand-3 d (s .0) .stays-sound held (o ∷ []) (s .1)) in
-      rw (on-sound t o) kept
+  pub record-laws : RecordLaws r
+  record-laws =
+      let test = record-exactly r in
+      record {
+        sound-is = test;
+        refusal = record-returned r;
+        does = λ s o. rw (on-record (descriptionOf r) r o (test .1 s, refl)) (does-so (descriptionOf r) (r .words) o (kept (test .1 s)));
+        unsound-stays = λ u o. unsound-record r o (not-T (soundRecord r) (λ t. u (test .0 t)));
+        refused-changes-nothing = as-before;
+        keeps-description = description-stays r;
+      }
 
-  exactly : {P : Type 0} (o : Order) → T (isAccepted (rehearsal (netOf d) .answer held o)) ↔ P → T (isAccepted (call d held o .0)) ↔ (T ok × P)
-  exactly {P} o rule = (λ t. go (or-not ok) t, λ h. rw (on-sound (h .0) o) (rule .1 (h .1)))
-    where
-      go : T ok ⊎ T (not ok) → T (isAccepted (call d held o .0)) → T ok × P
-      go (inl s) t = (s, rule .0 (rw (on-sound s o) at t))
-      go (inr u) t = absurd (rw (on-unsound u o) at t)
+-- Demand 3, of every accepted description: for the calls on words, and for the calls on records that keep it.
+pub demand-3-words : (d : List ℕ) → verdict d .number ≡ 0 → Drains (netOf d) (callsOn d) cellsOf (SoundOn d)
+demand-3-words d ok = drains-under (netOf d) (callsOn d) cellsOf (λ words. T (soundOn d words)) (SoundOn d) (sound-exactly d) (words-drain d ok)
 
-  pub calls : Calls d held
-  unfolding rehearsal
-  calls = record {
-    sound-is = sound-rule d held;
-    unsound-first = on-unsound;
-    refusal-keeps = refusal;
-    stays-sound = stays;
-    places = λ k a p. exactly (placing k a p) (place-exactly (netOf d) (entries (netOf d)) held k a p);
-    advances = λ ch p. exactly (advancing ch p) (advance-exactly (netOf d) (entries (netOf d)) held ch p);
-  }
+pub demand-3 : (d : List ℕ) → verdict d .number ≡ 0 → Drains (netOf d) calls (λ r. cellsOf (r .words)) (λ r. SoundRecord r × (descriptionOf r ≡ d))
+demand-3 d ok =
+    drains-under (netOf d) calls (λ r. cellsOf (r .words)) (Keeping d) (λ r. SoundRecord r × (descriptionOf r ≡ d))
+    (λ r. (λ k. (record-exactly r .0 (k .0), k .1), λ s. (record-exactly r .1 (s .0), s .1))) (records-drain d ok)
+
+-- And a start gives such a record, with an empty net: so all of it holds from a start on, after any orders.
+pub from-start : (d : List ℕ) → verdict d .number ≡ 0 → (r : Rehearsal)
+    → let s = start d r .lent in SoundRecord s × (descriptionOf s ≡ d) × (cellsOf (s .words) ≡ nothing)
+from-start d ok r = rw (start-begins d ok r) (record-exactly (begun d) .0 (begun-keeping d ok .0), begun-description d ok, begun-empty d ok)

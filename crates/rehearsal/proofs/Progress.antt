@@ -11,11 +11,10 @@ use Rattle.topology.specs.Net.{Net, target, delivers}
 use Rattle.rehearsal.specs.Packets.{Cell, none, packet, Full, addressOf, full?}
 use Rattle.rehearsal.specs.Answers.{isAccepted, advancing}
 use Rattle.rehearsal.specs.Moves.{Tables, onward, allows, moving, taken?}
-use Rattle.rehearsal.specs.Rules.{MayAdvance}
 use Rattle.topology.proofs.Tests.{or-not}
 use Rattle.rehearsal.proofs.Drain.{chase}
 use Rattle.rehearsal.proofs.Tables.{Draining}
-use Rattle.rehearsal.proofs.Exactly.{advance-exactly}
+use Rattle.rehearsal.proofs.Exactly.{MayAdvance, advance-exactly}
 use Rattle.rehearsal.proofs.Sound.{FineCell, Facts}
 
 full-T : (x : Cell) → T (full? x) → Full x

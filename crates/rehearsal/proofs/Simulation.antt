@@ -2,6 +2,7 @@
 use Prim.Native.Nat.{ℕ, _+_, _%_}
 use mathlib.Core.List.{List, [], _∷_}
 use mathlib.Core.Path.{_≡_, refl, sym, _∙_, ap, ap₂, subst}
+use mathlib.Core.Logic.{_↔_}
 use lib.ListN.{getD}
 use lib.Dec.{T}
 use Rattle.topology.specs.Net.{Net}
@@ -85,3 +86,16 @@ module _ {S U : Type 0} (m : Machine S Order Answer) (k : Machine U Order Answer
               (a, entered-here en s h refl, to, port);
           placed-home = λ s h e os x a w en. d .placed-home (f s) (over s h) e os (rw (same-last s os h) at x) a w (entered-there h en);
         }
+
+-- what is sound may be said in other words
+pub drains-under : (n : Net) {S : Type 0} (m : Machine S Order Answer) (cells : S → List Cell) (Sound Other : S → Type 0) → ((s : S) → Sound s ↔ Other s)
+    → Drains n m cells Sound → Drains n m cells Other
+unfolding last
+drains-under n {S} m cells Sound Other same d = drains-too m m (λ s. s) Other itself n cells Sound (λ s. same s .1) d
+  where
+    itself : Simulates m m (λ s. s) Other
+    itself = record {
+      keeps = λ s o h. same (m .next s o) .0 (d .stays-sound s (o ∷ []) (same s .1 h));
+      same-answer = λ s o h. refl;
+      same-next = λ s o h. refl;
+    }

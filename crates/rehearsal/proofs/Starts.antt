@@ -20,14 +20,19 @@ use Rattle.rehearsal.proofs.Demand3.{nothing-sound}
 use Rattle.rehearsal.proofs.Calls.{Keeping, parts-sound}
 
 module _ (d : List ℕ) where
-  started : verdict d .number ≡ 0 → (r : Rehearsal) → start d r ≡ record { verdict = accepted; lent = begun d }
+  -- an accepted start, on any record, gives the record begun with d
+  pub start-begins : verdict d .number ≡ 0 → (r : Rehearsal) → start d r ≡ record { verdict = accepted; lent = begun d }
   unfolding start
-  started ok r = cond-is (eqb (verdict d .number) 0) _ _ (eq→eqb (verdict d .number) 0 ok)
+  start-begins ok r = cond-is (eqb (verdict d .number) 0) _ _ (eq→eqb (verdict d .number) 0 ok)
 
   -- a refused start answers what checking does, and leaves the record as it was
   pub start-refused : (verdict d .number ≡ 0 → ⊥) → (r : Rehearsal) → start d r ≡ record { verdict = verdict d; lent = r }
   unfolding start
   start-refused bad r = cond-not (eqb (verdict d .number) 0) _ _ (ne→neqb (verdict d .number) 0 bad)
+
+  pub begun-words : begun d .words ≡ replicate 768 0
+  unfolding begun
+  begun-words = refl
 
   module _ (ok : verdict d .number ≡ 0) where
     short : length d ≤ 2057
@@ -45,10 +50,6 @@ module _ (d : List ℕ) where
     unfolding begun
     begun-empty = no-words
 
-    pub begun-words : begun d .words ≡ replicate 768 0
-    unfolding begun
-    begun-words = refl
-
     pub begun-keeping : Keeping d (begun d)
     unfolding begun
     begun-keeping =
@@ -57,7 +58,3 @@ module _ (d : List ℕ) where
           T-both (leb (length d) 2057) (soundOn (descriptionOf (begun d)) (replicate 768 0)) (le→leb (length d) 2057 short) (rw begun-description on),
           begun-description,
         )
-
-    -- an accepted start, on any record, gives the record begun with d
-    pub start-begins : (r : Rehearsal) → start d r ≡ record { verdict = accepted; lent = begun d }
-    start-begins = started ok

@@ -42,7 +42,7 @@ refusals =
     case 17 (numbers rubbish (placing 5 53 2 ∷ advancing 0 1 ∷ []) ++ last calls rubbish (placing 5 53 2 ∷ []) .words) (17 ∷ 17 ∷ 7 ∷ 7 ∷ [])
     -- 17 for a bad address, a held channel from 2 × L on, an entry of 0 ahead, a word that is an address and more, and a length above 2,057
     ∷ case 17 (numbers (holding 0 54) (advancing 0 1 ∷ []) ++ numbers (holding 10 53) (advancing 0 1 ∷ []) ++ numbers (holding 9 53) (advancing 0 1 ∷ [])) (17 ∷ 17 ∷ 17 ∷ [])
-    ∷ case 17 (numbers (holding 1 65589) (advancing 0 1 ∷ []) ++ numbers (record { bytes = started .bytes; size = 2058; words = started .words }) (advancing 0 1 ∷ [])) (17 ∷ 17 ∷ [])
+    ∷ case 17 (numbers (holding 1 65589) (advancing 0 1 ∷ []) ++ numbers (record { bytes = r5; size = 2058; words = started .words }) (advancing 0 1 ∷ [])) (17 ∷ 17 ∷ [])
     -- 18, then 19 and 20: no such switch number, 257 is not 1, no such channel
     ∷ case 18 (numbers started (placing 0 53 2 ∷ placing 6 5 2 ∷ placing 257 53 1 ∷ advancing 10 1 ∷ [])) (18 ∷ 18 ∷ 18 ∷ 18 ∷ [])
     ∷ case 19 (numbers started (placing 5 5 2 ∷ placing 5 54 2 ∷ placing 5 1040 2 ∷ placing 5 54 99 ∷ [])) (19 ∷ 19 ∷ 19 ∷ 19 ∷ [])

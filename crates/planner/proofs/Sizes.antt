@@ -1,0 +1,163 @@
+-- How long the printed plan can be.
+use Prim.Native.Nat.{ℕ, suc, zero, _+_, _*_, _/_, _≤_, _<_}
+use mathlib.Core.Bool.{Bool, true, false}
+use mathlib.Core.List.{List, [], _∷_, _++_}
+use mathlib.Core.Path.{_≡_, refl}
+use native.Mathlib.Nat.{mul-suc}
+use native.Mathlib.Omega.{arith}
+use lib.ListN.{getD, length, length-append}
+use lib.Dec.{T, ltb, eqb, eqb→eq, ltb→lt, nltb→le, not-T}
+use Rattle.topology.specs.Count.{those}
+use Rattle.topology.specs.Format.{switchCount, cableCount}
+use Rattle.topology.specs.Check.{Verdict, refuse, unless, verdict, markDiffers, otherVersion, badCount, otherLength, badUid, badHosts, badSwitches, badPorts, oneSwitch, portsTaken, switchesFrom, cablesFrom}
+use Rattle.topology.specs.Net.{Net, WellFormed, netOf, target, live}
+use Rattle.topology.specs.Edit.{records}
+use Rattle.topology.proofs.Tests.{neither, choose, choose-cond}
+use Rattle.topology.proofs.Channels.{target-switch}
+use Rattle.topology.proofs.Records.{those-listed}
+use Rattle.topology.proofs.Laws.{accepted-well-formed}
+use Rattle.planner.specs.Tree.{level, up, upEnd, parentChannel, parentNumber}
+use Rattle.planner.specs.Table.{holder}
+use Rattle.planner.specs.Printed.{planWord, switchWord, linkWord, refusedWord, decimal, hex, fields, line, planLine, switchLine, linkLine, planText, printed}
+use Rattle.planner.proofs.Levels.{level-bound}
+use Rattle.planner.proofs.Digits.{decimal-length, hex-length}
+
+-- A refusal's number and position are small.
+abbrev Small : Verdict → Type 0
+Small v = (v .number ≤ 12) × (v .position < 384)
+
+small-unless : (b : Bool) (k at : ℕ) (rest : Verdict) → k ≤ 12 → at < 384 → ((T b → ⊥) → Small rest) → Small (unless b (refuse k at) rest)
+small-unless true k at rest h l f = (h, l)
+small-unless false k at rest h l f = f (λ t. t)
+
+module _ (d : List ℕ) where
+  small-switches : (k i : ℕ) (rest : Verdict) → i + k ≤ 384 → Small rest → Small (switchesFrom d k i rest)
+  unfolding switchesFrom
+  small-switches zero i rest h s = s
+  small-switches (suc k) i rest h s =
+      small-unless (badUid d i) 7 i _ (omega arith) (omega arith) (λ _.
+      small-unless (badHosts d i) 8 i _ (omega arith) (omega arith) (λ _. small-switches k (suc i) rest (omega arith) s))
+
+  small-cables : (k c : ℕ) → c + k ≤ 384 → Small (cablesFrom d k c)
+  unfolding cablesFrom
+  small-cables zero c h = (omega arith, omega arith)
+  small-cables (suc k) c h =
+      small-unless (badSwitches d c) 9 c _ (omega arith) (omega arith) (λ _.
+      small-unless (badPorts d c) 10 c _ (omega arith) (omega arith) (λ _.
+      small-unless (oneSwitch d c) 11 c _ (omega arith) (omega arith) (λ _.
+      small-unless (portsTaken d c) 12 c _ (omega arith) (omega arith) (λ _. small-cables k (suc c) (omega arith)))))
+
+  verdict-small : Small (verdict d)
+  unfolding verdict
+  verdict-small =
+      let s = switchCount d in
+      let l = cableCount d in
+      small-unless (ltb (length d) 9) 1 0 _ (omega arith) (omega arith) (λ _.
+      small-unless (markDiffers d) 2 0 _ (omega arith) (omega arith) (λ _.
+      small-unless (otherVersion d) 3 0 _ (omega arith) (omega arith) (λ _.
+      small-unless (badCount d) 4 0 _ (omega arith) (omega arith) (λ a.
+      small-unless (ltb 384 l) 5 0 _ (omega arith) (omega arith) (λ b.
+      small-unless (otherLength d) 6 0 _ (omega arith) (omega arith) (λ _.
+      let few = nltb→le 64 s (not-T (ltb 64 s) (neither (eqb s 0) (ltb 64 s) a .1)) in
+      let many = nltb→le 384 l (not-T (ltb 384 l) b) in
+      small-switches s 0 (cablesFrom d l 0) (omega arith) (small-cables l 0 (omega arith))))))))
+
+-- Fields with a space before each.
+abbrev spaced : List (List ℕ) → ℕ
+spaced [] = 0
+spaced (f ∷ fs) = suc (length f) + spaced fs
+
+fields-length : (fs : List (List ℕ)) → length (fields fs) ≡ spaced fs + 1
+unfolding fields
+fields-length [] = refl
+fields-length (f ∷ fs) = omega (arith, length-append f (fields fs), fields-length fs)
+
+line-length : (word : List ℕ) (fs : List (List ℕ)) → length (line word fs) ≡ length word + spaced fs + 1
+line-length word fs = omega (arith, length-append word (fields fs), fields-length fs)
+
+two : (x : ℕ) → x < 100 → length (decimal x) ≤ 2
+two x h = decimal-length 2 x (omega arith) h
+
+three : (x : ℕ) → x < 1000 → length (decimal x) ≤ 3
+three x h = decimal-length 3 x (omega arith) h
+
+-- Records of at most w characters each.
+records-bound : (r : ℕ → List ℕ) (w : ℕ) (is : List ℕ) → ((j : ℕ) → j < length is → length (r (getD is j 0)) ≤ w) → length (records r is) ≤ w * length is
+unfolding records
+records-bound r w [] each = omega arith
+records-bound r w (i ∷ is) each =
+    omega (arith, length-append (r i) (records r is), each 0 (omega arith), records-bound r w is (λ j h. each (suc j) (omega arith)), mul-suc w (length is))
+
+module _ (n : Net) (w : WellFormed n) where
+  parent-small : (s : ℕ) → parentNumber n s ≤ 64
+  unfolding parentNumber
+  parent-small s =
+      let c = parentChannel n s in
+      choose-cond (λ (x : ℕ). x ≤ 64) (live n c) (n .number (target n c)) 0
+      (λ t. w .number-high (target n c) (target-switch n w c (ltb→lt c (n .channels) t))) (λ d. omega arith)
+
+  up-end-switch : (c : ℕ) → c < n .channels / 2 → upEnd n c < n .switches
+  unfolding upEnd
+  up-end-switch c h =
+      let l : 2 * c < n .channels = omega arith in
+      choose-cond (λ (s : ℕ). s < n .switches) (up n (2 * c)) (target n (2 * c)) (n .source (2 * c)) (λ _. target-switch n w (2 * c) l) (λ _. w .from-a-switch (2 * c) l)
+
+  plan-length : length (planLine n) ≤ 12
+  plan-length =
+      let s = n .switches in
+      let c = n .channels / 2 in
+      let few = w .few-switches in
+      let many = w .few-channels in
+      omega (arith, line-length planWord (decimal s ∷ decimal c ∷ []), two s (omega arith), three c (omega arith))
+
+  switch-length : (k : ℕ) → k ≤ 64 → holder n k < n .switches → length (switchLine n k) ≤ 25
+  switch-length k h l =
+      let s = holder n k in
+      let few = w .few-switches in
+      let deep = level-bound n w s l in
+      let up = parent-small s in
+      omega (
+        arith,
+        line-length switchWord (decimal k ∷ hex 12 (n .uid s) ∷ decimal (level n s) ∷ decimal (parentNumber n s) ∷ []),
+        two k (omega arith),
+        hex-length 12 (n .uid s),
+        two (level n s) (omega arith),
+        two (parentNumber n s) (omega arith),
+      )
+
+  link-length : (c : ℕ) → c < n .channels / 2 → length (linkLine n c) ≤ 10
+  link-length c h =
+      let number = w .number-high (upEnd n c) (up-end-switch c h) in
+      let many = w .few-channels in
+      omega (arith, line-length linkWord (decimal c ∷ decimal (n .number (upEnd n c)) ∷ []), three c (omega arith), two (n .number (upEnd n c)) (omega arith))
+
+  text-length : length (planText n) ≤ 12 + 64 * 25 + 384 * 10
+  unfolding planText
+  text-length =
+      let held : ℕ → Bool = λ k. ltb (holder n k) (n .switches) in
+      let ks = those 64 1 held in
+      let cs = those (n .channels / 2) 0 (λ c. true) in
+      let a = those-listed held 64 1 in
+      let b = those-listed (λ c. true) (n .channels / 2) 0 in
+      let many = w .few-channels in
+      let some = records-bound (switchLine n) 25 ks
+      (λ j h. switch-length (getD ks j 0) (omega (arith, a .high j h)) (ltb→lt (holder n (getD ks j 0)) (n .switches) (a .passes j h))) in
+      let rest = records-bound (linkLine n) 10 cs (λ j h. link-length (getD cs j 0) (omega (arith, b .high j h))) in
+      omega (
+        arith,
+        length-append (planLine n ++ records (switchLine n) ks) (records (linkLine n) cs),
+        length-append (planLine n) (records (switchLine n) ks),
+        plan-length,
+        a .few,
+        b .few,
+      )
+
+-- whatever is read
+pub printed-length : (d : List ℕ) → length (printed d) ≤ 12 + 64 * 25 + 384 * 10
+unfolding printed
+printed-length d =
+    let v = verdict d in
+    choose (λ (l : List ℕ). length l ≤ 12 + 64 * 25 + 384 * 10) (eqb (v .number) 0) (planText (netOf d)) (line refusedWord (decimal (v .number) ∷ decimal (v .position) ∷ []))
+    (λ t. text-length (netOf d) (accepted-well-formed d (eqb→eq (v .number) 0 t)))
+    (λ f. let (k, at) = verdict-small d in
+    omega (arith, line-length refusedWord (decimal (v .number) ∷ decimal (v .position) ∷ []), two (v .number) (omega arith), three (v .position) (omega arith)))
