@@ -4,19 +4,21 @@ use mathlib.Core.Logic.{_⊎_, _↔_, _≢_}
 use mathlib.Core.Bool.{not}
 use mathlib.Core.List.{List, [], _∷_, List·Memᴰ}
 use Prim.Native.Nat.{ℕ, suc, _+_, _*_, _%_, _≤_, _<_, _^_}
-use lib.ListN.{getD, length, take, drop}
+use lib.ListN.{getD, length}
 use lib.Dec.{T}
 use Rattle.topology.specs.Count.{bit}
 use Rattle.topology.specs.Check.{verdict}
 use Rattle.topology.specs.Net.{Net, WellFormed, netOf, target, inPort, back, host, delivers, leaving}
-use Rattle.topology.specs.Answers.{done, refused}
+use Rattle.topology.specs.Accepted.{Accepted}
+use Rattle.topology.specs.Refusals.{Returned}
+use Rattle.topology.specs.Edit.{find}
 use Rattle.topology.specs.EditRules.{Named}
-use Rattle.topology.proofs.Laws.{accepted-well-formed}
+use Rattle.topology.proofs.Laws.{accepted-well-formed, OutcomeLaws}
 use Rattle.planner.specs.Tree.{within, joined, root, level, above, up, upEnd, parentChannel, parentNumber, parentPort}
 use Rattle.planner.specs.Routes.{Arrival, free, bound, after, way, far, legalLength}
-use Rattle.planner.specs.Table.{holder, destination, good, attached, arrival, begins, entry, tableOf, tableVerdict, table}
+use Rattle.planner.specs.Table.{holder, destination, good, attached, arrival, begins, entry, tableOf, tableVerdict, table, TableWrong}
 use Rattle.planner.specs.Rules.{Once, Walk, Parent, Downs, UpThenDown, Legal, Shortest, Leaves, Delivers, Attached, Arrives, Addresses, Good, Holds}
-use Rattle.planner.specs.Printed.{decimal, hex, line, printed}
+use Rattle.planner.specs.Printed.{decimal, hex, line, printed, program}
 use Rattle.planner.proofs.Walks.{within-walk, walk-within, joined-exactly, short-walk, joined-refl, joined-sym, joined-trans}
 use Rattle.planner.proofs.Levels.{root-switch, root-joined, root-lowest, root-same, level-shortest, within-level, level-bound, level-zero, at-root, below-root, channel-root, level-rise, level-fall}
 use Rattle.planner.proofs.Order.{above-T, T-above, up-above, above-irreflexive, above-transitive, above-asymmetric, above-total, up-back}
@@ -32,10 +34,12 @@ use Rattle.planner.proofs.Addresses.{held-exactly, held-by, good-exactl
 use Rattle.planner.proofs.Arrivals.{arrival-inside, attached-arrives, arrives-so}
 use Rattle.planner.proofs.Entries.{arrives, entry-lt, determined}
 use Rattle.planner.proofs.Holding.{holds-exactly, holds-none, unattached-discards, bad-discards, no-way-discards, apart-discards, way-serves, bound-down, home-exactly, own-address, arrival-decides}
-use Rattle.planner.proofs.Tables.{table-length, table-place, table-narrow, table-refused, table-filled}
+use Rattle.planner.proofs.Tables.{table-length, table-place, table-narrow}
+use Rattle.planner.proofs.TableJob.{table-returned, table-allowed, table-outcome}
 use Rattle.planner.proofs.Digits.{Each, decimalValue, hexValue, Digit, HexDigit, Plain, decimal-read, decimal-each, decimal-first, decimal-zero, decimal-plain, hex-length, hex-read, hex-each, hex-plain}
 use Rattle.planner.proofs.Printing.{Line, Lines, line-whole, printed-lines}
 use Rattle.planner.proofs.Sizes.{printed-length}
+use Rattle.planner.proofs.Keeping.{kept-enough}
 
 pub record TreeLaws (n : Net) : Type 0 where
   -- components: switches joined by walks
@@ -144,16 +148,16 @@ pub record TableLaws (n : Net) : Type 0 where
   pub places : (s i a : ℕ) → i < 13 → a < 1040 → getD (tableOf n s) (1040 * i + a) 0 ≡ entry n s i a
   pub narrow : (s j : ℕ) → getD (tableOf n s) j 0 < 2 ^ 16
 
--- The job that writes a table, where `out` is lent. Refused, it changes nothing.
-pub refused-table : (d : List ℕ) (u : ℕ) (out : List ℕ) → tableVerdict d u (length out) .number ≢ 0
-    → table d u out ≡ record { reply = refused (tableVerdict d u (length out)); out = out }
-refused-table = table-refused
+-- The job that writes the table of the switch with UID u.
+pub record TableJobLaws (d : List ℕ) (u : ℕ) : Type 0 where
+  -- the first refusal that applies, where room entries are lent; and what 0 says
+  pub returns : (room : ℕ) → Returned (TableWrong d u room) (tableVerdict d u room)
+  pub accepts : (room : ℕ) → tableVerdict d u room .number ≡ 0 → Accepted d × Named d u (find d u) × (13520 ≤ room)
+  -- refused, it changes nothing; else the table stands at the start of what is lent, and the rest is as it was
+  pub leaves : (out : List ℕ) → OutcomeLaws (tableVerdict d u (length out)) 0 (tableOf (netOf d) (find d u)) out (table d u out)
 
--- Otherwise the table of the switch with UID u stands at the start, and the rest is as it was.
-pub written-table : (d : List ℕ) (u : ℕ) (out : List ℕ) → tableVerdict d u (length out) .number ≡ 0
-    → let later = table d u out in (later .reply ≡ done 0) × (length (later .out) ≡ length out) × (drop 13520 (later .out) ≡ drop 13520 out)
-    × ((i : ℕ) × Named d u i × (take 13520 (later .out) ≡ tableOf (netOf d) i))
-written-table = table-filled
+pub table-job-laws : (d : List ℕ) (u : ℕ) → TableJobLaws d u
+table-job-laws d u = record { returns = table-returned d u; accepts = table-allowed d u; leaves = table-outcome d u }
 
 -- Printed numbers and lines; Digits.antt and Printing.antt say what the words mean.
 pub record PrintLaws : Type 0 where
@@ -173,6 +177,8 @@ pub record PrintLaws : Type 0 where
   -- whatever is read, what is printed is whole lines, and at most 5,452 characters
   pub whole-lines : (d : List ℕ) → Lines (printed d)
   pub short : (d : List ℕ) → length (printed d) ≤ 5452
+  -- of a longer input the bytes that the program keeps are enough
+  pub kept : (input : List ℕ) → program input ≡ printed input
 
 module _ (n : Net) (w : WellFormed n) where
   pub tree-laws : TreeLaws n
@@ -281,4 +287,5 @@ print-laws = record {
   one-line = line-whole;
   whole-lines = printed-lines;
   short = printed-length;
+  kept = kept-enough;
 }

@@ -1,0 +1,56 @@
+-- The job that writes a table: which refusal it meets, and what it leaves.
+use Prim.Native.Nat.{ℕ, _≤_, _<_}
+use mathlib.Core.List.{List, [], _∷_}
+use mathlib.Core.Logic.{_⊎_, inl, inr}
+use mathlib.Core.Path.{_≡_, refl}
+use native.Mathlib.Omega.{arith}
+use lib.ListN.{length}
+use lib.Dec.{T, leb, ltb, ltb→lt, lt→ltb, lit<}
+use Rattle.topology.specs.Format.{switchCount}
+use Rattle.topology.specs.Accepted.{Accepted}
+use Rattle.topology.specs.Net.{netOf}
+use Rattle.topology.specs.Refusals.{Returned, Wrong}
+use Rattle.topology.specs.Edit.{find}
+use Rattle.topology.specs.EditRules.{Named}
+use Rattle.topology.proofs.Chains.{Rules, Says, testOf, and-then}
+use Rattle.topology.proofs.Firsts.{returned-zero}
+use Rattle.topology.proofs.Verdicts.{wrong-number, accepted-rule}
+use Rattle.topology.proofs.Jobs.{checked-returned}
+use Rattle.topology.proofs.Finding.{unknown-rule, known}
+use Rattle.topology.proofs.Laws.{OutcomeLaws, outcome-laws}
+use Rattle.planner.specs.Table.{tableOf, tableVerdict, table, TableWrong, description, unknown, little-room}
+use Rattle.planner.proofs.Tables.{table-length}
+
+module _ (d : List ℕ) (u : ℕ) where
+  module _ (room : ℕ) where
+    ofTable : Rules
+    ofTable = (leb (switchCount d) (find d u), 13) ∷ (ltb room 13520, 16) ∷ []
+
+    pub table-returned : Returned (TableWrong d u room) (tableVerdict d u room)
+    unfolding tableVerdict ofTable
+    table-returned = checked-returned d (TableWrong d u room) ofTable 16 tt (λ k j w. description w) (λ a. says) rows
+      where
+        says : Says (TableWrong d u room) 0 ofTable
+        says = and-then (λ t. unknown (unknown-rule d u .0 t)) (and-then (λ t. little-room (ltb→lt room 13520 t)) tt)
+
+        rows : (k j : ℕ) → TableWrong d u room k j → Wrong d k j ⊎ ((12 < k) × (j ≡ 0) × (Accepted d → T (testOf ofTable k)))
+        rows k j (description w) = inl w
+        rows k j (unknown f) = inr (lit< tt, refl, λ a. unknown-rule d u .1 f)
+        rows k j (little-room h) = inr (lit< tt, refl, λ a. lt→ltb room 13520 h)
+
+    -- where it returns 0
+    pub table-allowed : tableVerdict d u room .number ≡ 0 → Accepted d × Named d u (find d u) × (13520 ≤ room)
+    table-allowed e =
+        let none = returned-zero (TableWrong d u room) positive table-returned e .1 in
+        let fits : room < 13520 → ⊥ = λ h. none 16 0 (little-room h) in
+        (accepted-rule d .1 (λ k j w. none k j (description w)), known d u (λ t. none 13 0 (unknown (unknown-rule d u .0 t))), omega arith)
+      where
+        positive : (k j : ℕ) → TableWrong d u room k j → 0 < k
+        positive k j (description w) = wrong-number d w .0
+        positive k j (unknown f) = lit< tt
+        positive k j (little-room h) = lit< tt
+
+  pub table-outcome : (out : List ℕ) → let new = tableOf (netOf d) (find d u) in OutcomeLaws (tableVerdict d u (length out)) 0 new out (table d u out)
+  unfolding table
+  table-outcome out =
+      outcome-laws (tableVerdict d u (length out)) 0 (tableOf (netOf d) (find d u)) out (λ e. omega (arith, table-length (netOf d) (find d u), table-allowed (length out) e .2))
