@@ -12,8 +12,8 @@ use Rattle.topology.specs.Check.{Verdict, refuse, accepted, unless}
 use Rattle.topology.specs.Net.{Net, WellFormed, netOf, target, inPort, live, leaving, delivers}
 use Rattle.topology.specs.Refusals.{Earlier, stage, Returned}
 use Rattle.topology.proofs.Tests.{decide, or-not, surely, both-T, T-both}
-use Rattle.topology.proofs.Firsts.{stage-mono}
-use Rattle.topology.proofs.Chains.{Rules, chain, Says, testOf, chain-returned}
+use Rattle.topology.proofs.Firsts.{stage-mono, returned}
+use Rattle.topology.proofs.Chains.{Rules, chain, Says, testOf, chain-settled}
 use Rattle.topology.proofs.Laws.{accepted-well-formed}
 use Rattle.planner.specs.Table.{holder, good}
 use Rattle.planner.specs.Rules.{Good, Holds, Leaves}
@@ -120,7 +120,7 @@ module _ (n : Net) (w : WellFormed n) (words : List ℕ) where
           (refl, not-T (not (taken? held c)) (λ t. u (rw (← z) (free-word words c t))))
 
       pub place-returned : Returned Placing (verdictOf (placeAnswer n (entries n) held k a p))
-      place-returned = rw place-chain (chain-returned Placing placings 22 tt place-says place-rows)
+      place-returned = rw place-chain (returned Placing (chain 0 placings accepted) (chain-settled Placing placings 22 tt place-says place-rows))
 
     module _ (ch p : ℕ) where
       abbrev cell : Cell
@@ -204,7 +204,7 @@ module _ (n : Net) (w : WellFormed n) (words : List ℕ) where
           (refl, T-both (not out) (taken? held to) on (surely (taken? held to) (λ t. u (rw (← z) (free-word words to t)))))
 
       pub advance-returned : Returned Advancing (verdictOf (advanceAnswer n (entries n) held ch p))
-      advance-returned = rw advance-chain (chain-returned Advancing advancings 22 tt advance-says advance-rows)
+      advance-returned = rw advance-chain (returned Advancing (chain 0 advancings accepted) (chain-settled Advancing advancings 22 tt advance-says advance-rows))
 
     pub machine-returned : (o : Order) → Returned (OrderWrong Sound n words o) (verdictOf (rehearsal n .answer held o))
     unfolding rehearsal moving

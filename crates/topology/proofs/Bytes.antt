@@ -7,10 +7,9 @@ use lib.ListN.{getD, length}
 use lib.Dec.{eqb, ltb, lit<}
 use Rattle.topology.specs.Format.{Bytes, switchCount, cableCount, cableAt}
 use Rattle.topology.specs.Count.{those}
-use Rattle.topology.specs.Edit.{find, header, switchRecord, cableRecord, records, part, fall, clear, retired, pulled}
+use Rattle.topology.specs.Edit.{header, switchRecord, cableRecord, records, part, fall, clear, retired, pulled}
 use Rattle.topology.proofs.Tests.{choose-cond}
 use Rattle.topology.proofs.Records.{those-listed}
-use Rattle.topology.proofs.Kept.{find-is}
 
 none : Bytes []
 none k = lit< tt
@@ -82,10 +81,3 @@ module _ (d : List ℕ) (b : Bytes d) where
   pub pulled-bytes : (c : ℕ) → Bytes (pulled d c)
   unfolding pulled
   pulled-bytes c = part-bytes (λ x. x) (λ x. omega arith) _ _ (fits (switchCount d) (λ j. true) switches-fit) (fits (cableCount d) (λ x. not (eqb x c)) cables-fit)
-
-  -- a UID argument above 48 bits is not found
-  pub found-narrow : (u : ℕ) → find d u < switchCount d → u < 281474976710656
-  found-narrow u h =
-      let i = find d u in
-      let at = 9 + 8 * i in
-      omega (arith, find-is d u h, b at, b (at + 1), b (at + 2), b (at + 2 + 1), b (at + 4), b (at + 4 + 1))

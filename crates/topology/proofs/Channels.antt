@@ -1,8 +1,8 @@
 -- Channels, their way back, and the ports they leave and come in by.
-use mathlib.Core.Path.{_≡_, refl, ap, subst}
+use mathlib.Core.Path.{_≡_, refl, sym, ap, subst, _∙_}
 use mathlib.Core.Logic.{_⊎_, inl, inr}
 use mathlib.Core.Bool.{not}
-use Prim.Native.Nat.{ℕ, _+_, _-_, _%_, _≤_, _<_}
+use Prim.Native.Nat.{ℕ, _+_, _*_, _-_, _%_, _≤_, _<_}
 use native.Mathlib.Omega.{arith}
 use lib.Dec.{T, eqb, eqb→eq, eqb-refl, lt→ltb}
 use Rattle.topology.specs.Count.{both}
@@ -30,6 +30,17 @@ back-back ch = go (back ch) (back (back ch)) (back-is ch) (back-is (back ch))
     go b c (inl p) (inr q) = omega arith
     go b c (inr p) (inl q) = omega arith
     go b c (inr p) (inr q) = absurd (omega arith)
+
+-- the two channels of cable c
+pub back-first : (c : ℕ) → back (2 * c) ≡ 2 * c + 1
+back-first c = go (back-is (2 * c))
+  where
+    go : {b : ℕ} → Back (2 * c) b → b ≡ 2 * c + 1
+    go (inl e) = e .1
+    go (inr e) = absurd (omega arith)
+
+pub back-second : (c : ℕ) → back (2 * c + 1) ≡ 2 * c
+back-second c = ap back (sym (back-first c)) ∙ back-back (2 * c)
 
 module _ (n : Net) where
   pub target-back : (ch : ℕ) → target n (back ch) ≡ n .source ch

@@ -1,36 +1,28 @@
--- What is left of an accepted description after retiring or pulling is accepted.
+-- What is left of an accepted description, where both ends of each cable that is kept are kept: it is accepted, and holds exactly what was kept.
 use mathlib.Core.Path.{_≡_, refl, sym, ap, _∙_}
-use mathlib.Core.Logic.{inl, inr, _≢_}
-use mathlib.Core.Bool.{Bool, true, not}
+use mathlib.Core.Logic.{inl, inr, _↔_}
+use mathlib.Core.Bool.{Bool}
 use mathlib.Core.List.{List}
 use Prim.Native.Nat.{ℕ, _+_, _*_, _/_, _%_, _<_}
-use native.Mathlib.Nat.{zero-add}
 use native.Mathlib.Omega.{arith}
 use lib.ListN.{getD, length}
-use lib.Dec.{T, eqb, T-not}
-use Rattle.topology.specs.Count.{either, those}
-use Rattle.topology.specs.Format.{switchCount, cableCount, endSwitch}
-use Rattle.topology.specs.Edit.{part, fall, clear, otherSwitches, retired, pulled}
-use Rattle.topology.proofs.Tests.{split, neither, ne→neqb, eq→eqb}
+use lib.Dec.{T}
+use Rattle.topology.specs.Count.{those}
+use Rattle.topology.specs.Format.{switchCount, cableCount, endSwitch, endPort, EndOf}
 use Rattle.topology.specs.Accepted.{Accepted, Switch, End, Cable}
-use Rattle.topology.proofs.Records.{Listed, those-listed, Found, those-found, all-length, others-length, fall-length}
-use Rattle.topology.proofs.Parts.{was, part-length, part-switches, part-cables, part-uid, part-hosts, part-end}
+use Rattle.topology.specs.Edit.{part}
+use Rattle.topology.specs.EditRules.{Keeps}
+use Rattle.topology.proofs.Tests.{split}
+use Rattle.topology.proofs.Verdicts.{end-at}
+use Rattle.topology.proofs.Records.{Listed, Found, those-listed, those-lists}
+use Rattle.topology.proofs.Parts.{was, part-length, part-switches, part-cables, part-uid, part-hosts, part-end, part-cable}
 
-module _ (d : List ℕ) where
-  -- the switches other than i, each where it fell to
-  pub other-found : (i x : ℕ) → x < switchCount d → x ≢ i → Found (λ j. not (eqb j i)) x (otherSwitches d i) (fall i x)
-  other-found i x h n =
-      rw (fall-length i x n, zero-add) at (those-found (λ j. not (eqb j i)) (switchCount d) x 0 h (rw zero-add (ne→neqb x i n)))
-
-  pub all-found : (x : ℕ) → x < switchCount d → Found (λ j. true) x (those (switchCount d) 0 (λ j. true)) x
-  all-found x h = rw (all-length x 0, zero-add) at (those-found (λ j. true) (switchCount d) x 0 h tt)
+pub end-side : (x b : ℕ) → b < 2 → EndOf x (2 * x + b)
+end-side x b l = elim (split b 1) [ inl z ↦ inl (omega arith) | inr z ↦ inr (omega arith) ]
 
 module _ (d : List ℕ) (a : Accepted d) where
-  end-of : (x b : ℕ) → x < cableCount d → b < 2 → End d x (2 * x + b)
-  end-of x b h l = elim (split b 1) [
-    | inl z ↦ let e : 2 * x ≡ 2 * x + b = omega arith in rw (← e) (a .cables x h .first)
-    | inr z ↦ let e : 2 * x + 1 ≡ 2 * x + b = omega arith in rw (← e) (a .cables x h .second)
-  ]
+  pub end-of : (x b : ℕ) → x < cableCount d → b < 2 → End d x (2 * x + b)
+  end-of x b h l = end-at d a h (end-side x b l)
 
   -- switches and cables that may be kept together: both ends of each cable are kept, and moved to where they stand
   module _ (f g : ℕ → Bool) (newPosition : ℕ → ℕ) where
@@ -43,7 +35,7 @@ module _ (d : List ℕ) (a : Accepted d) where
     abbrev new : List ℕ
     new = part d ss cs newPosition
 
-    module _ (some : 0 < length ss) (stands : (x b : ℕ) → x < cableCount d → b < 2 → T (g x) → Found f (endSwitch d (2 * x + b)) ss (newPosition (endSwitch d (2 * x + b)))) where
+    module _ (stands : (x b : ℕ) → x < cableCount d → b < 2 → T (g x) → Found (endSwitch d (2 * x + b)) ss (newPosition (endSwitch d (2 * x + b)))) where
       sl : Listed f (switchCount d) 0 ss
       sl = those-listed f (switchCount d) 0
 
@@ -66,7 +58,7 @@ module _ (d : List ℕ) (a : Accepted d) where
       cable-old : (e : ℕ) → e < 2 * length cs → getD cs (e / 2) 0 < cableCount d
       cable-old e h = omega (arith, cl .high (e / 2) (omega arith))
 
-      found : (e : ℕ) → e < 2 * length cs → Found f (endSwitch d (was d ss cs newPosition e)) ss (newPosition (endSwitch d (was d ss cs newPosition e)))
+      found : (e : ℕ) → e < 2 * length cs → Found (endSwitch d (was d ss cs newPosition e)) ss (newPosition (endSwitch d (was d ss cs newPosition e)))
       found e h = stands (getD cs (e / 2) 0) (e % 2) (cable-old e h) (omega arith) (cl .passes (e / 2) (omega arith))
 
       -- two ends at one switch were at one switch
@@ -110,9 +102,9 @@ module _ (d : List ℕ) (a : Accepted d) where
           odd : (c : ℕ) → was d ss cs newPosition (2 * c + 1) ≡ 2 * getD cs c 0 + 1
           odd c = let h : (2 * c + 1) / 2 ≡ c = omega arith in rw h (omega arith)
 
-      pub part-accepted : Accepted new
+      pub part-accepted : 0 < length ss → Accepted new
       unfolding part
-      part-accepted =
+      part-accepted some =
           let s = part-switches d ss cs newPosition in
           let c = part-cables d ss cs newPosition in
           record {
@@ -126,23 +118,26 @@ module _ (d : List ℕ) (a : Accepted d) where
             cables = λ j h. cable j (omega (arith, c));
           }
 
-  pub retired-ok : (i : ℕ) → i < switchCount d → 1 < switchCount d → Accepted (retired d i)
-  unfolding retired
-  retired-ok i h l = part-accepted (λ j. not (eqb j i)) (clear d i) (fall i) (omega (arith, others-length i (switchCount d) 0 (omega arith) (omega arith))) stands
-    where
-      off : (x b : ℕ) → b < 2 → T (clear d i x) → endSwitch d (2 * x + b) ≢ i
-      off x b l t =
-          let n = neither (eqb (endSwitch d (2 * x)) i) (eqb (endSwitch d (2 * x + 1)) i) (T-not (either (eqb (endSwitch d (2 * x)) i) (eqb (endSwitch d (2 * x + 1)) i)) t) in
-          elim (split b 1) [
-            | inl z ↦ λ e. n .0 (eq→eqb (endSwitch d (2 * x)) i (let k : 2 * x ≡ 2 * x + b = omega arith in ap (endSwitch d) k ∙ e))
-            | inr z ↦ λ e. n .1 (eq→eqb (endSwitch d (2 * x + 1)) i (let k : 2 * x + 1 ≡ 2 * x + b = omega arith in ap (endSwitch d) k ∙ e))
-          ]
+      -- it keeps exactly the switches and cables that were chosen
+      pub part-keeps : (Stays Kept : ℕ → Type 0) → ((j : ℕ) → T (f j) ↔ Stays j) → ((c : ℕ) → T (g c) ↔ Kept c) → Keeps d new Stays Kept
+      part-keeps Stays Kept p q = record {
+        switches = ss;
+        cables = cs;
+        kept-switches = those-lists Stays f (switchCount d) p;
+        kept-cables = those-lists Kept g (cableCount d) q;
+        switch-count = part-switches d ss cs newPosition;
+        cable-count = part-cables d ss cs newPosition;
+        size = part-length d ss cs newPosition;
+        uids = part-uid d ss cs newPosition;
+        hosts = part-hosts d ss cs newPosition;
+        end-there = λ c b h l. rw (at c b h l .0) (there c b h l .0);
+        end-switch = λ c b h l. ap (λ (k : ℕ). getD ss k 0) (at c b h l .0) ∙ there c b h l .1;
+        end-port = λ c b h l. at c b h l .1;
+      }
+        where
+          at : (c b : ℕ) → c < length cs → b < 2
+              → (endSwitch new (2 * c + b) ≡ newPosition (endSwitch d (2 * getD cs c 0 + b))) × (endPort new (2 * c + b) ≡ endPort d (2 * getD cs c 0 + b))
+          at c b h l = part-cable d ss cs newPosition (getD cs c 0) c b (h, refl) l
 
-      stands : (x b : ℕ) → x < cableCount d → b < 2 → T (clear d i x)
-          → Found (λ j. not (eqb j i)) (endSwitch d (2 * x + b)) (otherSwitches d i) (fall i (endSwitch d (2 * x + b)))
-      stands x b m z t = other-found d i (endSwitch d (2 * x + b)) (end-of x b m z .switch-there) (off x b z t)
-
-  pub pulled-ok : (c : ℕ) → Accepted (pulled d c)
-  unfolding pulled
-  pulled-ok c = part-accepted (λ j. true) (λ x. not (eqb x c)) (λ x. x) (omega (arith, all-length (switchCount d) 0, a .some-switch))
-      (λ x b m z t. all-found d (endSwitch d (2 * x + b)) (end-of x b m z .switch-there))
+          there : (c b : ℕ) → c < length cs → b < 2 → Found (endSwitch d (2 * getD cs c 0 + b)) ss (newPosition (endSwitch d (2 * getD cs c 0 + b)))
+          there c b h l = stands (getD cs c 0) b (omega (arith, cl .high c h)) l (cl .passes c h)

@@ -11,7 +11,7 @@ use lib.Dec.{lit<}
 use Rattle.topology.specs.Format.{be16, switchCount, cableCount, uidAt, hostsAt, endSwitch, endPort}
 use Rattle.topology.specs.Edit.{header, switchRecord, cableRecord, records, part}
 use Rattle.topology.proofs.Tests.{split}
-use Rattle.topology.proofs.Records.{records-length, records-at}
+use Rattle.topology.proofs.Records.{Found, records-length, records-at}
 
 switch-byte : (d : List ℕ) (i b : ℕ) → b < 8 → getD (switchRecord d i) b 0 ≡ getD d (9 + 8 * i + b) 0
 switch-byte d i zero h = rw add-zero refl
@@ -111,3 +111,16 @@ module _ (d ss cs : List ℕ) (newPosition : ℕ → ℕ) where
       go (inr z) =
           let same : was e ≡ 2 * getD cs (e / 2) 0 + 1 = omega arith in
           rw same (at 2 (start + 2 * e) (omega (arith, starts)) (lit< tt), at 3 (start + 2 * e + 1) (omega (arith, starts)) (lit< tt))
+
+  -- a record of d that stands in the list stands there as it was, its switches where they now are
+  pub part-switch : (x at : ℕ) → Found x ss at → (uidAt new at ≡ uidAt d x) × (hostsAt new at ≡ hostsAt d x)
+  part-switch x at (h, e) = (part-uid at h ∙ ap (uidAt d) e, part-hosts at h ∙ ap (hostsAt d) e)
+
+  pub part-cable : (x at b : ℕ) → Found x cs at → b < 2
+      → (endSwitch new (2 * at + b) ≡ newPosition (endSwitch d (2 * x + b))) × (endPort new (2 * at + b) ≡ endPort d (2 * x + b))
+  part-cable x at b (h, s) l =
+      let e = 2 * at + b in
+      let half : e / 2 ≡ at = omega arith in
+      let same : was e ≡ 2 * x + b = ap (λ (k : ℕ). 2 * getD cs k 0 + e % 2) half ∙ omega (arith, s) in
+      let q = part-end e (omega arith) in
+      (q .0 ∙ ap (λ (k : ℕ). newPosition (endSwitch d k)) same, q .1 ∙ ap (endPort d) same)

@@ -34,6 +34,10 @@ module _ (d : List ℕ) (a : Accepted d) where
   numbers-high s h =
       omega (arith, count-more (below s) (λ _. true) (switchCount d) (λ i _ p. tt) s h (λ p. omega (arith, ltb→lt)) tt, count-le (λ _. true) (switchCount d))
 
+  pub numbers-differ : (s t : ℕ) → s < switchCount d → t < switchCount d → numberAt d s ≡ numberAt d t → s ≡ t
+  numbers-differ s t h l e = uids-differ s t h l (level-ground (uidAt d s) (uidAt d t)
+      (λ p. omega (arith, numbers-grow s t h p)) (λ p. omega (arith, numbers-grow t s l p)))
+
   -- a channel is an end of a cable
   abbrev Side : ℕ → ℕ → Type 0
   Side ch c = ((ch ≡ 2 * c) × (back ch ≡ 2 * c + 1)) ⊎ ((ch ≡ 2 * c + 1) × (back ch ≡ 2 * c))
@@ -72,6 +76,10 @@ module _ (d : List ℕ) (a : Accepted d) where
           same : 2 * c ≤ x → x ≡ back y
           same m = omega arith
 
+  -- two ends at one port of one switch are one end
+  pub ends-differ : (x y : ℕ) → x < 2 * cableCount d → y < 2 * cableCount d → endSwitch d x ≡ endSwitch d y → endPort d x ≡ endPort d y → x ≡ y
+  ends-differ x y h l s p = level-ground x y (ports-apart x y h l s p) (ports-apart y x l h (sym s) (sym p))
+
   pub well-formed : WellFormed (netOf d)
   unfolding netOf
   well-formed = record {
@@ -80,8 +88,7 @@ module _ (d : List ℕ) (a : Accepted d) where
     few-channels = omega arith;
     both-ways = λ ch h. let p = side ch h in elim (p .2) [ inl q ↦ omega arith | inr q ↦ omega arith ];
     uids-differ = uids-differ;
-    numbers-differ = λ s t h l e. uids-differ s t h l (level-ground (uidAt d s) (uidAt d t)
-        (λ p. omega (arith, numbers-grow s t h p)) (λ p. omega (arith, numbers-grow t s l p)));
+    numbers-differ = numbers-differ;
     number-low = λ s h. omega arith;
     number-high = λ s h. omega (arith, numbers-high s h);
     few-hosts = λ s h. a .switches s h .hosts-high;
@@ -89,6 +96,6 @@ module _ (d : List ℕ) (a : Accepted d) where
     from-a-switch = λ ch h. end-of ch h .2 .switch-there;
     by-a-port = λ ch h. (end-of ch h .2 .port-low, end-of ch h .2 .port-high);
     no-loop = λ ch h e. ends-apart ch h e;
-    ports-differ = λ x y h l s p. level-ground x y (ports-apart x y h l s p) (ports-apart y x l h (sym s) (sym p));
+    ports-differ = ends-differ;
     no-host-there = λ ch h. end-of ch h .2 .no-host;
   }

@@ -1,137 +1,124 @@
--- Checking returns 0 exactly for what `Accepted` says.
-use mathlib.Core.Path.{_≡_}
+-- A description is accepted exactly if no refusal applies.
+use mathlib.Core.Path.{_≡_, refl}
 use mathlib.Core.Logic.{inl, inr, _↔_}
-use mathlib.Core.Bool.{Bool, true, false, not}
 use mathlib.Core.List.{List}
-use Prim.Native.Nat.{ℕ, suc, zero, _+_, _*_, _≤_, _<_}
+use Prim.Native.Nat.{ℕ, suc, zero, _*_, _+_, _≤_, _<_}
 use native.Mathlib.Omega.{arith}
 use lib.ListN.{getD, length}
-use lib.Dec.{T, ltb, eqb, eqb→eq, not-T, T-not, nltb→le, ltb→lt}
-use Rattle.topology.specs.Count.{either}
-use Rattle.topology.specs.Format.{mark, versionOf, switchCount, cableCount, sizeFor, endSwitch}
-use Rattle.topology.specs.Check.{Verdict, refuse, unless, verdict, switchesFrom, cablesFrom, letterDiffers, markDiffers, otherVersion, badCount, otherLength, badUid, badHosts, badSwitch, badSwitches, badPort, badPorts, oneSwitch, portTaken, portsTaken}
-use Rattle.topology.proofs.Tests.{surely, neither, eq→eqb}
-use Rattle.topology.proofs.Searches.{below-cases}
-use Rattle.topology.specs.Accepted.{Switch, Cable, Marked, Accepted}
-use Rattle.topology.proofs.Refusals.{nor, switch-rule, end-rule}
-
--- a rule that is not met
-unmet : (b : Bool) (k at : ℕ) (rest : Verdict) → unless b (refuse (suc k) at) rest .number ≡ 0 → (T b → ⊥) × (rest .number ≡ 0)
-unmet true k at rest e = absurd (omega arith)
-unmet false k at rest e = (λ t. t, e)
-
-passed : (b : Bool) (k at : ℕ) (rest : Verdict) → (T b → ⊥) → rest .number ≡ 0 → unless b (refuse k at) rest .number ≡ 0
-passed true k at rest d e = absurd (d tt)
-passed false k at rest d e = e
+use lib.Dec.{not-T, T-not, lit<, lit≤}
+use Rattle.topology.specs.Count.{bit}
+use Rattle.topology.specs.Format.{mark, versionOf, switchCount, cableCount, sizeFor, hostsAt, endSwitch, endPort, EndOf}
+use Rattle.topology.specs.Check.{accepted, verdict}
+use Rattle.topology.specs.Refusals.{Wrong, short, other-letter, other-version, no-switch, many-switches, many-cables, other-length, uid-zero, uid-again, host-outside, end-nowhere, end-outside, one-switch, host-port, used-port}
+use Rattle.topology.specs.Accepted.{Switch, End, Accepted}
+use Rattle.topology.proofs.Tests.{split, not-different}
+use Rattle.topology.proofs.Bits.{high-bit}
+use Rattle.topology.proofs.Firsts.{settled-zero}
+use Rattle.topology.proofs.Returns.{verdict-settled}
 
 module _ (d : List ℕ) where
-  switches-passed : (k i : ℕ) (rest : Verdict) → switchesFrom d k i rest .number ≡ 0
-      → ((j : ℕ) → i ≤ j → j < i + k → Switch d j) × (rest .number ≡ 0)
-  unfolding switchesFrom
-  switches-passed zero i rest e = (λ j l h. absurd (omega arith), e)
-  switches-passed (suc k) i rest e =
-      let p = unmet (badUid d i) 6 i _ e in
-      let q = unmet (badHosts d i) 7 i _ (p .1) in
-      let r = switches-passed k (suc i) rest (q .1) in
-      (λ j l h. elim (below-cases i j (omega arith)) [ inl x ↦ rw (← x) (switch-rule d i .0 (p .0, q .0)) | inr x ↦ r .0 j x (omega arith) ], r .1)
+  pub wrong-number : {k i : ℕ} → Wrong d k i → (0 < k) × (k ≤ 12)
+  wrong-number (short h) = (lit< tt, lit≤ tt)
+  wrong-number (other-letter j h x) = (lit< tt, lit≤ tt)
+  wrong-number (other-version x) = (lit< tt, lit≤ tt)
+  wrong-number (no-switch e) = (lit< tt, lit≤ tt)
+  wrong-number (many-switches h) = (lit< tt, lit≤ tt)
+  wrong-number (many-cables h) = (lit< tt, lit≤ tt)
+  wrong-number (other-length x) = (lit< tt, lit≤ tt)
+  wrong-number (uid-zero h e) = (lit< tt, lit≤ tt)
+  wrong-number (uid-again j h b e) = (lit< tt, lit≤ tt)
+  wrong-number (host-outside p h b o) = (lit< tt, lit≤ tt)
+  wrong-number (end-nowhere e h o b) = (lit< tt, lit≤ tt)
+  wrong-number (end-outside e h o b) = (lit< tt, lit≤ tt)
+  wrong-number (one-switch h e) = (lit< tt, lit≤ tt)
+  wrong-number (host-port e h o b) = (lit< tt, lit≤ tt)
+  wrong-number (used-port e f h o b x y) = (lit< tt, lit≤ tt)
 
-  pass-switches : (k i : ℕ) (rest : Verdict) → ((j : ℕ) → i ≤ j → j < i + k → Switch d j) → rest .number ≡ 0 → switchesFrom d k i rest .number ≡ 0
-  unfolding switchesFrom
-  pass-switches zero i rest each e = e
-  pass-switches (suc k) i rest each e =
-      let s = switch-rule d i .1 (each i (omega arith) (omega arith)) in
-      passed (badUid d i) 7 i _ (s .0) (passed (badHosts d i) 8 i _ (s .1) (pass-switches k (suc i) rest (λ j l h. each j (omega arith) (omega arith)) e))
+  -- an accepted description's cable has two such ends
+  pub end-at : Accepted d → {c e : ℕ} → c < cableCount d → EndOf c e → End d c e
+  end-at a h (inl z) = rw z (a .cables _ h .first)
+  end-at a h (inr z) = rw z (a .cables _ h .second)
 
-  cables-passed : (k c : ℕ) → cablesFrom d k c .number ≡ 0 → (j : ℕ) → c ≤ j → j < c + k → Cable d j
-  unfolding cablesFrom
-  cables-passed zero c e j l h = absurd (omega arith)
-  cables-passed (suc k) c e j l h =
-      let x = 2 * c in
-      let y = 2 * c + 1 in
-      let r = unmet (badSwitches d c) 8 c _ e in
-      let s = unmet (badPorts d c) 9 c _ (r .1) in
-      let t = unmet (oneSwitch d c) 10 c _ (s .1) in
-      let u = unmet (portsTaken d c) 11 c _ (t .1) in
-      let r′ = neither (badSwitch d x) (badSwitch d y) (r .0) in
-      let s′ = neither (badPort d x) (badPort d y) (s .0) in
-      let u′ = neither (portTaken d c x) (portTaken d c y) (u .0) in
-      let here : Cable d c = record {
-        first = end-rule d c x .0 (r′ .0, s′ .0, u′ .0);
-        second = end-rule d c y .0 (r′ .1, s′ .1, u′ .1);
-        apart = λ z. t .0 (eq→eqb (endSwitch d x) (endSwitch d y) z);
-      } in
-      elim (below-cases c j (omega arith)) [ inl z ↦ rw (← z) here | inr z ↦ cables-passed k (suc c) (u .1) j z (omega arith) ]
+  none-wrong : Accepted d → (k i : ℕ) → Wrong d k i → ⊥
+  none-wrong a k i (short h) = omega (arith, a .size)
+  none-wrong a k i (other-letter zero h x) = x (a .marked .letter-u)
+  none-wrong a k i (other-letter (suc zero) h x) = x (a .marked .letter-d)
+  none-wrong a k i (other-letter (suc (suc zero)) h x) = x (a .marked .letter-r)
+  none-wrong a k i (other-letter (suc (suc (suc j))) h x) = omega arith
+  none-wrong a k i (other-version x) = x (a .version)
+  none-wrong a k i (no-switch e) = omega (arith, a .some-switch)
+  none-wrong a k i (many-switches h) = omega (arith, a .few-switches)
+  none-wrong a k i (many-cables h) = omega (arith, a .few-cables)
+  none-wrong a k i (other-length x) = x (a .size)
+  none-wrong a k i (uid-zero h e) = a .switches i h .uid-some e
+  none-wrong a k i (uid-again j h b e) = a .switches i h .uid-new j b e
+  none-wrong a k i (host-outside p h b (inl e)) = T-not (bit (hostsAt d i) 0) (a .switches i h .hosts-low) (rw e at b)
+  none-wrong a k i (host-outside p h b (inr l)) = omega (arith, high-bit 13 (hostsAt d i) .1 (p, l, b), a .switches i h .hosts-high)
+  none-wrong a k c (end-nowhere e h o b) = omega (arith, end-at a h o .switch-there)
+  none-wrong a k c (end-outside e h o (inl z)) = omega (arith, end-at a h o .port-low)
+  none-wrong a k c (end-outside e h o (inr l)) = omega (arith, end-at a h o .port-high)
+  none-wrong a k c (one-switch h e) = a .cables c h .apart e
+  none-wrong a k c (host-port e h o b) = T-not (bit (hostsAt d (endSwitch d e)) (endPort d e)) (end-at a h o .no-host) b
+  none-wrong a k c (used-port e f h o b x y) = end-at a h o .unused f b x y
 
-  pass-cables : (k c : ℕ) → ((j : ℕ) → c ≤ j → j < c + k → Cable d j) → cablesFrom d k c .number ≡ 0
-  unfolding cablesFrom
-  pass-cables zero c each = omega arith
-  pass-cables (suc k) c each =
-      let x = 2 * c in
-      let y = 2 * c + 1 in
-      let here = each c (omega arith) (omega arith) in
-      let a = end-rule d c x .1 (here .first) in
-      let b = end-rule d c y .1 (here .second) in
-      passed (badSwitches d c) 9 c _ (nor (badSwitch d x) (badSwitch d y) (a .0) (b .0))
-      (passed (badPorts d c) 10 c _ (nor (badPort d x) (badPort d y) (a .1) (b .1))
-      (passed (oneSwitch d c) 11 c _ (λ t. here .apart (eqb→eq (endSwitch d x) (endSwitch d y) t))
-      (passed (portsTaken d c) 12 c _ (nor (portTaken d c x) (portTaken d c y) (a .2) (b .2)) (pass-cables k (suc c) (λ j l h. each j (omega arith) (omega arith))))))
+  -- the other way round
+  module _ (fine : (k i : ℕ) → Wrong d k i → ⊥) where
+    switch-fine : (i : ℕ) → i < switchCount d → Switch d i
+    switch-fine i h = record {
+      uid-some = λ e. fine 7 i (uid-zero h e);
+      uid-new = λ j b e. fine 7 i (uid-again j h b e);
+      hosts-low = not-T (bit (hostsAt d i) 0) (λ t. fine 8 i (host-outside 0 h t (inl refl)));
+      hosts-high = elim (split (hostsAt d i) 8192) [
+        | inl l ↦ l
+        | inr l ↦ let (p, q, b) = high-bit 13 (hostsAt d i) .0 l in absurd (fine 8 i (host-outside p h b (inr q)))
+      ];
+    }
 
-  spelled : (T (markDiffers d) → ⊥) → Marked d
-  spelled h =
-      let p = neither (letterDiffers d 0) (either (letterDiffers d 1) (letterDiffers d 2)) h in
-      let q = neither (letterDiffers d 1) (letterDiffers d 2) (p .1) in
-      record { letter-u = letter 0 (p .0); letter-d = letter 1 (q .0); letter-r = letter 2 (q .1) }
-    where
-      letter : (k : ℕ) → (T (letterDiffers d k) → ⊥) → getD d k 0 ≡ getD mark k 0
-      letter k h = eqb→eq (getD d k 0) (getD mark k 0) (surely (eqb (getD d k 0) (getD mark k 0)) h)
+    end-fine : (c e : ℕ) → c < cableCount d → EndOf c e → End d c e
+    end-fine c e h o =
+        let there : switchCount d ≤ endSwitch d e → ⊥ = λ b. fine 9 c (end-nowhere e h o b) in
+        let low : endPort d e ≡ 0 → ⊥ = λ z. fine 10 c (end-outside e h o (inl z)) in
+        let high : 12 < endPort d e → ⊥ = λ l. fine 10 c (end-outside e h o (inr l)) in
+        record {
+          switch-there = omega arith;
+          port-low = omega arith;
+          port-high = omega arith;
+          no-host = not-T (bit (hostsAt d (endSwitch d e)) (endPort d e)) (λ t. fine 12 c (host-port e h o t));
+          unused = λ f b x y. fine 12 c (used-port e f h o b x y);
+        }
 
-  spell : Marked d → T (markDiffers d) → ⊥
-  spell m =
-      nor (letterDiffers d 0) (either (letterDiffers d 1) (letterDiffers d 2)) (letter 0 (m .letter-u))
-      (nor (letterDiffers d 1) (letterDiffers d 2) (letter 1 (m .letter-d)) (letter 2 (m .letter-r)))
-    where
-      letter : (k : ℕ) → getD d k 0 ≡ getD mark k 0 → T (letterDiffers d k) → ⊥
-      letter k e t = T-not (eqb (getD d k 0) (getD mark k 0)) t (eq→eqb (getD d k 0) (getD mark k 0) e)
+    letter : (k : ℕ) → k < 3 → getD d k 0 ≡ getD mark k 0
+    letter k h = not-different (getD d k 0) (getD mark k 0) (λ x. fine 2 0 (other-letter k h x))
 
-  verdict-passed : verdict d .number ≡ 0 → Accepted d
-  unfolding verdict
-  verdict-passed e =
-      let s = switchCount d in
-      let l = cableCount d in
-      let a = unmet (ltb (length d) 9) 0 0 _ e in
-      let b = unmet (markDiffers d) 1 0 _ (a .1) in
-      let c = unmet (otherVersion d) 2 0 _ (b .1) in
-      let f = unmet (badCount d) 3 0 _ (c .1) in
-      let g = unmet (ltb 384 l) 4 0 _ (f .1) in
-      let h = unmet (otherLength d) 5 0 _ (g .1) in
-      let i = switches-passed s 0 (cablesFrom d l 0) (h .1) in
-      let m = neither (eqb s 0) (ltb 64 s) (f .0) in
-      let none : s ≡ 0 → ⊥ = λ z. m .0 (eq→eqb s 0 z) in
-      record {
-        marked = spelled (b .0);
-        version = eqb→eq (versionOf d) 1 (surely (eqb (versionOf d) 1) (c .0));
-        some-switch = omega arith;
-        few-switches = nltb→le 64 s (not-T (ltb 64 s) (m .1));
-        few-cables = nltb→le 384 l (not-T (ltb 384 l) (g .0));
-        size = eqb→eq (length d) (sizeFor s l) (surely (eqb (length d) (sizeFor s l)) (h .0));
-        switches = λ j k. i .0 j (omega arith) (omega arith);
-        cables = λ j k. cables-passed l 0 (i .1) j (omega arith) (omega arith);
-      }
+    all-fine : Accepted d
+    all-fine =
+        let some : switchCount d ≡ 0 → ⊥ = λ e. fine 4 0 (no-switch e) in
+        let few : 64 < switchCount d → ⊥ = λ h. fine 4 0 (many-switches h) in
+        let fewer : 384 < cableCount d → ⊥ = λ h. fine 5 0 (many-cables h) in
+        record {
+          marked = record { letter-u = letter 0 (lit< tt); letter-d = letter 1 (lit< tt); letter-r = letter 2 (lit< tt) };
+          version = not-different (versionOf d) 1 (λ x. fine 3 0 (other-version x));
+          some-switch = omega arith;
+          few-switches = omega arith;
+          few-cables = omega arith;
+          size = not-different (length d) (sizeFor (switchCount d) (cableCount d)) (λ x. fine 6 0 (other-length x));
+          switches = switch-fine;
+          cables = λ c h. record {
+            first = end-fine c (2 * c) h (inl refl);
+            second = end-fine c (2 * c + 1) h (inr refl);
+            apart = λ e. fine 11 c (one-switch h e);
+          };
+        }
 
-  pass-verdict : Accepted d → verdict d .number ≡ 0
-  unfolding verdict
-  pass-verdict a =
-      let s = switchCount d in
-      let l = cableCount d in
-      let size = a .size in
-      let version = a .version in
-      passed (ltb (length d) 9) 1 0 _ (λ t. omega (arith, ltb→lt (length d) 9 t))
-      (passed (markDiffers d) 2 0 _ (spell (a .marked))
-      (passed (otherVersion d) 3 0 _ (λ t. T-not (eqb (versionOf d) 1) t (eq→eqb (versionOf d) 1 version))
-      (passed (badCount d) 4 0 _ (nor (eqb s 0) (ltb 64 s) (λ t. omega (arith, eqb→eq s 0 t, a .some-switch)) (λ t. omega (arith, ltb→lt 64 s t, a .few-switches)))
-      (passed (ltb 384 l) 5 0 _ (λ t. omega (arith, ltb→lt 384 l t, a .few-cables))
-      (passed (otherLength d) 6 0 _ (λ t. T-not (eqb (length d) (sizeFor s l)) t (eq→eqb (length d) (sizeFor s l) size))
-      (pass-switches s 0 (cablesFrom d l 0) (λ j p q. a .switches j (omega arith)) (pass-cables l 0 (λ j p q. a .cables j (omega arith)))))))))
+  pub accepted-rule : Accepted d ↔ ((k i : ℕ) → Wrong d k i → ⊥)
+  accepted-rule = (none-wrong, all-fine)
+
+  -- checking returns 0 exactly for these, and then at position 0
+  pub verdict-zero : verdict d .number ≡ 0 → (verdict d ≡ accepted) × Accepted d
+  verdict-zero e = let (v, fine) = settled-zero (Wrong d) (verdict d) (verdict-settled d) e in (v, all-fine fine)
 
   pub verdict-rule : (verdict d .number ≡ 0) ↔ Accepted d
-  verdict-rule = (verdict-passed, pass-verdict)
+  verdict-rule = (
+    λ e. verdict-zero e .1,
+    λ a. elim (verdict-settled d .0) [ inl e ↦ e .0 | inr w ↦ absurd (none-wrong a _ _ w) ],
+  )

@@ -31,14 +31,14 @@ pub record Keeps (d new : List ℕ) (Switch Cable : ℕ → Type 0) : Type 0 whe
   pub end-switch : (c b : ℕ) → c < length cables → b < 2 → getD switches (endSwitch new (2 * c + b)) 0 ≡ endSwitch d (2 * getD cables c 0 + b)
   pub end-port : (c b : ℕ) → c < length cables → b < 2 → endPort new (2 * c + b) ≡ endPort d (2 * getD cables c 0 + b)
 
+-- cable c has an end at port p of record i
+abbrev pub CableAt : List ℕ → ℕ → ℕ → ℕ → Type 0
+CableAt d i p c = (c < cableCount d) × ((e : ℕ) × EndOf c e × (endSwitch d e ≡ i) × (endPort d e ≡ p))
+
 module _ (d : List ℕ) (u : ℕ) where
   -- record i has that UID
   abbrev pub Named : ℕ → Type 0
   Named i = (i < switchCount d) × (uidAt d i ≡ u)
-
-  -- cable c has an end at port p of record i
-  abbrev pub CableAt : ℕ → ℕ → ℕ → Type 0
-  CableAt i p c = (c < cableCount d) × ((e : ℕ) × EndOf c e × (endSwitch d e ≡ i) × (endPort d e ≡ p))
 
   -- the refusals of retiring, where room bytes are lent
   pub data RetireWrong (room : ℕ) : ℕ → ℕ → Type 0 where
@@ -51,5 +51,5 @@ module _ (d : List ℕ) (u : ℕ) where
   pub data PullWrong (p room : ℕ) : ℕ → ℕ → Type 0 where
     description : {k i : ℕ} → Wrong d k i → PullWrong p room k i
     unknown : ((i : ℕ) → Named i → ⊥) → PullWrong p room 13 0
-    no-cable : (i : ℕ) → Named i → ((c : ℕ) → CableAt i p c → ⊥) → PullWrong p room 15 0
-    little-room : (i c : ℕ) → Named i → CableAt i p c → room < length (pulled d c) → PullWrong p room 16 0
+    no-cable : (i : ℕ) → Named i → ((c : ℕ) → CableAt d i p c → ⊥) → PullWrong p room 15 0
+    little-room : (i c : ℕ) → Named i → CableAt d i p c → room < length (pulled d c) → PullWrong p room 16 0
