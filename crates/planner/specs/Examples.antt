@@ -9,7 +9,7 @@ use Rattle.topology.specs.Check.{verdict, switchesFrom, cablesFrom}
 use Rattle.topology.specs.Net.{Net, netOf, leaving}
 use Rattle.topology.specs.Edit.{find, records}
 use Rattle.topology.specs.Case.{Case, case, allRight, shown}
-use Rattle.topology.specs.Samples.{r5, one, pair, triangle, twins, diamond}
+use Rattle.topology.specs.Samples.{r5, pair, triangle, twins, diamond}
 use Rattle.planner.specs.Tree.{within, root, level, above, up, parentChannel, upEnd, parentNumber, parentPort}
 use Rattle.planner.specs.Routes.{free, bound, way, legalLength}
 use Rattle.planner.specs.Table.{holder, arrival, begins, entry, entryAt, tableVerdict}

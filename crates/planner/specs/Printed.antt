@@ -4,8 +4,8 @@ use mathlib.Core.List.{List, [], _∷_, _++_}
 use mathlib.Core.Bool.{true, false, cond}
 use lib.ListN.{take}
 use lib.Dec.{eqb, ltb}
-use Rattle.topology.specs.Count.{those, tabulate}
-use Rattle.topology.specs.Check.{Verdict, verdict}
+use Rattle.topology.specs.Count.{those}
+use Rattle.topology.specs.Check.{verdict}
 use Rattle.topology.specs.Net.{Net, netOf}
 use Rattle.topology.specs.Edit.{records}
 use Rattle.planner.specs.Tree.{level, upEnd, parentNumber}

@@ -5,11 +5,10 @@ use mathlib.Core.List.{List, [], _∷_}
 use mathlib.Core.Bool.{cond}
 use mathlib.Core.Path.{_≡_, refl, sym, _∙_}
 use mathlib.Core.Logic.{_≢_}
-use lib.ListN.{getD}
 use lib.Dec.{eqb}
 use Rattle.topology.specs.Net.{Net, target}
 use Rattle.rehearsal.specs.Machine.{answers}
-use Rattle.rehearsal.specs.Packets.{Cell, none}
+use Rattle.rehearsal.specs.Packets.{Cell}
 use Rattle.rehearsal.specs.Answers.{Answer, Order}
 use Rattle.rehearsal.specs.Moves.{Tables, moving, onward}
 use Rattle.rehearsal.specs.Follow.{Whereabouts, inChannel, deliveredAt, Apart, hop, followed}

@@ -1,26 +1,25 @@
 -- Calls on words and on records follow the machine over what the channels hold.
-use Prim.Native.Nat.{ℕ, _≤_}
-use mathlib.Core.List.{List, [], _∷_, map}
+use Prim.Native.Nat.{ℕ}
+use mathlib.Core.List.{List, [], _∷_}
 use mathlib.Core.Bool.{Bool, true, false, cond, not}
-use mathlib.Core.Path.{_≡_, refl, sym, _∙_, ap}
-use mathlib.Core.Logic.{_⊎_, inl, inr}
-use lib.ListN.{length, length-map, take}
-use lib.Dec.{T, eqb, eqb→eq, leb, leb→le, le→leb}
+use mathlib.Core.Path.{_≡_, refl, _∙_, ap}
+use lib.ListN.{length, length-map}
+use lib.Dec.{T, eqb, eqb→eq, leb}
 use Rattle.topology.specs.Count.{both}
 use Rattle.topology.specs.Check.{verdict}
 use Rattle.topology.specs.Net.{Net, WellFormed, netOf}
 use Rattle.topology.proofs.Tests.{both-T, T-both, eq→eqb, cond-is, cond-not}
 use Rattle.topology.proofs.Laws.{accepted-well-formed}
-use Rattle.rehearsal.specs.Machine.{Machine, last}
+use Rattle.rehearsal.specs.Machine.{last}
 use Rattle.rehearsal.specs.Packets.{Cell, cellOf, wordOf, cellsOf, wordsOf}
-use Rattle.rehearsal.specs.Answers.{Order, Answer, refused}
+use Rattle.rehearsal.specs.Answers.{Order, refused}
 use Rattle.rehearsal.specs.Moves.{rehearsal}
 use Rattle.rehearsal.specs.Sound.{soundHeld}
 use Rattle.rehearsal.specs.Record.{Called, gives, soundOn, callOn, callsOn, Rehearsal, descriptionOf, withWords, soundRecord, call, calls}
 use Rattle.rehearsal.specs.Drains.{Drains}
 use Rattle.rehearsal.proofs.Demand3.{SoundCells, itself, drains}
 use Rattle.rehearsal.proofs.Simulation.{Simulates, drains-too}
-use Rattle.rehearsal.proofs.Words.{words-back, cells-back}
+use Rattle.rehearsal.proofs.Words.{cells-back}
 
 module _ (d : List ℕ) where
   abbrev n : Net

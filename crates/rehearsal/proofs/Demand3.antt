@@ -1,17 +1,14 @@
 -- Demand 3 of the machine over what the channels hold, in every well-formed net.
-use Prim.Native.Nat.{ℕ, _≤_, _%_}
+use Prim.Native.Nat.{ℕ, _%_}
 use native.Mathlib.Omega.{arith}
-use mathlib.Core.List.{List, []}
-use mathlib.Core.Path.{_≡_, refl, sym, _∙_, ap, ap₂, subst}
-use mathlib.Core.Logic.{_≢_}
+use mathlib.Core.List.{List}
+use mathlib.Core.Path.{_≡_, refl, _∙_, ap₂}
 use lib.ListN.{getD, length, replicate, length-replicate}
 use lib.Dec.{T}
-use Rattle.topology.specs.Check.{verdict}
-use Rattle.topology.specs.Net.{Net, WellFormed, netOf}
-use Rattle.topology.proofs.Laws.{accepted-well-formed}
+use Rattle.topology.specs.Net.{Net, WellFormed}
 use Rattle.planner.specs.Routes.{legalLength, far}
 use Rattle.planner.specs.Table.{entry, destination}
-use Rattle.rehearsal.specs.Machine.{last, answers, tally, every}
+use Rattle.rehearsal.specs.Machine.{last, every}
 use Rattle.rehearsal.specs.Packets.{Packet, Cell, none, packet, Full, addressOf, nothing}
 use Rattle.rehearsal.specs.Answers.{Order, advances}
 use Rattle.rehearsal.specs.Moves.{entries, moving, rehearsal}

@@ -1,9 +1,8 @@
 -- What an order on sound words does, in the rules' words.
-use Prim.Native.Nat.{ℕ, suc, zero, _<_}
-use native.Mathlib.Omega.{arith}
-use mathlib.Core.List.{List, map}
-use mathlib.Core.Bool.{Bool, not}
-use mathlib.Core.Path.{_≡_, refl, sym, _∙_, ap, ap₂, subst}
+use Prim.Native.Nat.{ℕ, suc, zero}
+use mathlib.Core.List.{List}
+use mathlib.Core.Bool.{not}
+use mathlib.Core.Path.{_≡_, refl, sym, _∙_, ap, subst}
 use mathlib.Core.Logic.{_≢_}
 use lib.ListN.{getD, set}
 use lib.Dec.{T, T-not}
@@ -17,9 +16,9 @@ use Rattle.planner.proofs.Holding.{holds-exactly}
 use Rattle.rehearsal.specs.Packets.{Packet, sent, Cell, none, packet, Full, full?, addressOf, cellOf, wordOf, cellsOf, wordsOf}
 use Rattle.rehearsal.specs.Answers.{Order, Answer, isAccepted}
 use Rattle.rehearsal.specs.Moves.{entries, onward, taken?, rehearsal}
-use Rattle.rehearsal.specs.Record.{Called, soundOn, callOn}
+use Rattle.rehearsal.specs.Record.{soundOn, callOn}
 use Rattle.rehearsal.specs.Rules.{Does}
-use Rattle.rehearsal.proofs.Effects.{Free, Effect, stays, placed, goes, leaves, effect}
+use Rattle.rehearsal.proofs.Effects.{Effect, stays, placed, goes, leaves, effect}
 use Rattle.rehearsal.proofs.Words.{map-set, words-back, cell-at, full-word, address-word}
 use Rattle.rehearsal.proofs.Calls.{obeyed, sound-parts}
 

@@ -3,18 +3,18 @@ use Prim.Native.Nat.{ℕ, suc, zero, _+_, _≤_, _<_}
 use native.Mathlib.Omega.{arith}
 use native.Mathlib.Nat.{le-trans}
 use mathlib.Core.List.{List, [], _∷_}
-use mathlib.Core.Bool.{Bool, true, false, cond, not}
-use mathlib.Core.Path.{_≡_, refl, _∙_}
+use mathlib.Core.Bool.{Bool, true, false}
+use mathlib.Core.Path.{_≡_, refl}
 use mathlib.Core.Logic.{_⊎_, inl, inr}
-use lib.ListN.{getD, set, length, replicate}
+use lib.ListN.{getD, length, replicate}
 use lib.Dec.{T, not-T}
 use Rattle.topology.specs.Net.{Net, leaving}
 use Rattle.planner.specs.Table.{holder}
 use Rattle.rehearsal.specs.Machine.{last, answers, tally, every}
-use Rattle.rehearsal.specs.Packets.{Packet, Cell, none, packet, sent, Full}
+use Rattle.rehearsal.specs.Packets.{Cell, none, packet, sent, Full}
 use Rattle.rehearsal.specs.Answers.{Answer, isAccepted, leavesNet, enters, Order, placing, advancing, advances}
-use Rattle.rehearsal.specs.Moves.{Tables, onward, moving}
-use Rattle.rehearsal.specs.Left.{toGo, work, each, packets, placings, Still}
+use Rattle.rehearsal.specs.Moves.{Tables, moving}
+use Rattle.rehearsal.specs.Left.{work, each, packets, placings, Still}
 use Rattle.rehearsal.proofs.Drain.{one, tally-cons}
 use Rattle.rehearsal.proofs.Tables.{Draining, Counts}
 use Rattle.rehearsal.proofs.Held.{some-or-none, none-there}

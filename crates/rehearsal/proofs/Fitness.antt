@@ -1,12 +1,12 @@
 -- Soundness, as the test that runs and as the rule that is read.
-use Prim.Native.Nat.{ℕ, suc, zero, _≤_, _<_}
+use Prim.Native.Nat.{ℕ, suc, zero}
 use native.Mathlib.Omega.{arith}
 use mathlib.Core.List.{List}
 use mathlib.Core.Path.{_≡_, refl}
 use mathlib.Core.Logic.{_↔_, _≢_}
 use lib.ListN.{getD, length, length-map}
 use lib.Dec.{T, eqb, eqb→eq, ltb, leb, ltb→lt, lt→ltb, leb→le, le→leb}
-use Rattle.topology.specs.Count.{both, bit}
+use Rattle.topology.specs.Count.{both}
 use Rattle.topology.specs.Check.{verdict}
 use Rattle.topology.specs.Net.{Net, WellFormed, netOf, target, inPort, live}
 use Rattle.topology.proofs.Tests.{both-T, T-both}
@@ -15,11 +15,11 @@ use Rattle.topology.proofs.Laws.{accepted-exactly, accepted-well-formed}
 use Rattle.planner.specs.Table.{good, entry}
 use Rattle.planner.proofs.Addresses.{good-exactly}
 use Rattle.planner.proofs.Holding.{holds-exactly}
-use Rattle.rehearsal.specs.Packets.{none, cellOf, cellsOf}
+use Rattle.rehearsal.specs.Packets.{cellOf, cellsOf}
 use Rattle.rehearsal.specs.Sound.{soundAt, soundHeld}
 use Rattle.rehearsal.specs.Record.{Rehearsal, descriptionOf, soundOn, soundRecord}
 use Rattle.rehearsal.specs.Rules.{MayHold, SoundOn, SoundRecord}
-use Rattle.rehearsal.proofs.Sound.{Fine, FineCell, Facts}
+use Rattle.rehearsal.proofs.Sound.{FineCell}
 use Rattle.rehearsal.proofs.Soundness.{facts, sound-held}
 use Rattle.rehearsal.proofs.Words.{cell-at}
 use Rattle.rehearsal.proofs.Calls.{sound-parts, parts-sound}

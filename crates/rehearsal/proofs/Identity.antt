@@ -1,22 +1,20 @@
 -- A packet keeps its address, and leaves the net at that address.
-use Prim.Native.Nat.{ℕ, pred, _<_, _%_}
-use native.Mathlib.Omega.{arith}
+use Prim.Native.Nat.{ℕ, _<_, _%_}
 use native.Mathlib.Nat.{le-trans}
-use native.Mathlib.Decide.{ℕ-discrete}
 use mathlib.Core.List.{List, [], _∷_}
 use mathlib.Core.Bool.{cond}
 use mathlib.Core.Path.{_≡_, sym, ap, _∙_, subst}
 use mathlib.Core.Logic.{_≢_}
-use lib.ListN.{getD, set, take, length, length-set}
+use lib.ListN.{getD, set, length, length-set}
 use lib.Seq.{getD-set-same, getD-set-other}
 use lib.Dec.{eqb, eqb→eq}
-use Rattle.topology.specs.Net.{Net, target}
+use Rattle.topology.specs.Net.{Net}
 use Rattle.planner.specs.Table.{destination}
 use Rattle.rehearsal.specs.Machine.{last, answers}
-use Rattle.rehearsal.specs.Packets.{Packet, Cell, none, packet, addressOf, Full}
+use Rattle.rehearsal.specs.Packets.{Packet, Cell, none, packet, addressOf}
 use Rattle.rehearsal.specs.Answers.{Answer, Order}
 use Rattle.rehearsal.specs.Moves.{Tables, onward, moving}
-use Rattle.rehearsal.specs.Follow.{Whereabouts, inChannel, deliveredAt, Apart, hop, followed}
+use Rattle.rehearsal.specs.Follow.{Whereabouts, inChannel, deliveredAt, hop, followed}
 use Rattle.topology.proofs.Tests.{choose-cond, eq→eqb}
 use Rattle.rehearsal.proofs.Tables.{Draining}
 use Rattle.rehearsal.proofs.Effects.{Effect, stays, placed, goes, leaves, effect}

@@ -2,7 +2,7 @@
 use Prim.Native.Nat.{ℕ}
 use mathlib.Core.List.{List}
 use mathlib.Core.Bool.{not}
-use mathlib.Core.Path.{_≡_, refl, ap, _∙_}
+use mathlib.Core.Path.{_≡_, refl, ap}
 use mathlib.Core.Logic.{_↔_, _⊎_, inl, inr}
 use lib.ListN.{length, replicate}
 use lib.Dec.{T, not-T, leb}
@@ -11,7 +11,7 @@ use Rattle.topology.specs.Net.{netOf}
 use Rattle.topology.specs.Refusals.{Returned}
 use Rattle.topology.proofs.Tests.{both-T, or-not}
 use Rattle.rehearsal.specs.Packets.{cellsOf, nothing}
-use Rattle.rehearsal.specs.Answers.{Order, Answer, refused, isAccepted, verdictOf}
+use Rattle.rehearsal.specs.Answers.{Order, refused, isAccepted, verdictOf}
 use Rattle.rehearsal.specs.Moves.{rehearsal}
 use Rattle.rehearsal.specs.Record.{Called, gives, soundOn, callOn, callsOn, Rehearsal, descriptionOf, soundRecord, call, calls, begun, start}
 use Rattle.rehearsal.specs.Rules.{SoundOn, SoundRecord, Does, OrderWrong}

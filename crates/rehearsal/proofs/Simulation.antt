@@ -1,13 +1,12 @@
 -- A machine that follows another step by step drains as it does.
-use Prim.Native.Nat.{ℕ, _+_, _%_}
+use Prim.Native.Nat.{ℕ}
 use mathlib.Core.List.{List, [], _∷_}
 use mathlib.Core.Path.{_≡_, refl, sym, _∙_, ap, ap₂, subst}
 use mathlib.Core.Logic.{_↔_}
-use lib.ListN.{getD}
 use lib.Dec.{T}
 use Rattle.topology.specs.Net.{Net}
-use Rattle.rehearsal.specs.Machine.{Machine, last, answers, tally, every}
-use Rattle.rehearsal.specs.Packets.{Cell, none}
+use Rattle.rehearsal.specs.Machine.{Machine, last, answers, every}
+use Rattle.rehearsal.specs.Packets.{Cell}
 use Rattle.rehearsal.specs.Answers.{Order, Answer, advances}
 use Rattle.rehearsal.specs.Left.{Still}
 use Rattle.rehearsal.specs.Follow.{Whereabouts, inChannel, followed, Entered, now, later}

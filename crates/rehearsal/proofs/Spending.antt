@@ -1,12 +1,12 @@
 -- Accepted advances against what is left to do.
-use Prim.Native.Nat.{ℕ, suc, pred, zero, _+_, _≤_, _<_, min}
+use Prim.Native.Nat.{ℕ, _+_, _≤_, _<_}
 use native.Mathlib.Omega.{arith}
 use native.Mathlib.Nat.{le-trans}
-use mathlib.Core.List.{List, [], _∷_}
-use mathlib.Core.Path.{_≡_, refl, sym, _∙_, ap, subst}
+use mathlib.Core.List.{List}
+use mathlib.Core.Path.{_≡_, refl, _∙_, ap}
 use mathlib.Core.Logic.{_≢_, _⊎_, inl, inr}
-use lib.ListN.{getD, set, take, length, length-set, length-take, replicate}
-use lib.Seq.{getD-set-other, length-take-le}
+use lib.ListN.{getD, set, length, length-set, replicate}
+use lib.Seq.{getD-set-other}
 use lib.Dec.{T, T-not}
 use Rattle.topology.specs.Net.{Net}
 use Rattle.rehearsal.specs.Machine.{last, answers, tally, every}
@@ -18,7 +18,7 @@ use Rattle.rehearsal.proofs.Drain.{one, keeps, at-most, exactly}
 use Rattle.rehearsal.proofs.Tables.{Draining, Descends, Counts}
 use Rattle.rehearsal.proofs.Held.{sum-set, sum-empty, some-or-none}
 use Rattle.rehearsal.proofs.Effects.{Free, Effect, stays, placed, goes, leaves, effect}
-use Rattle.rehearsal.proofs.Sound.{Facts, FineCell, fine-at, no-head, apart, sound-next}
+use Rattle.rehearsal.proofs.Sound.{Facts, fine-at, no-head, apart, sound-next}
 use Rattle.rehearsal.proofs.Progress.{progress}
 
 -- sums over the heads after each kind of step

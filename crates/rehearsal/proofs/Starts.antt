@@ -1,20 +1,18 @@
 -- Starting: what the record then keeps, and what a refused start leaves.
-use Prim.Native.Nat.{ℕ, _+_, _-_, _≤_}
+use Prim.Native.Nat.{ℕ, _-_, _≤_}
 use native.Mathlib.Omega.{arith}
-use mathlib.Core.List.{List, _++_}
-use mathlib.Core.Bool.{Bool, not}
-use mathlib.Core.Path.{_≡_, refl, sym, _∙_, ap}
-use lib.ListN.{length, length-append, length-replicate, take, replicate}
+use mathlib.Core.List.{List}
+use mathlib.Core.Path.{_≡_, refl, _∙_}
+use lib.ListN.{length, length-append, length-replicate, replicate}
 use lib.Seq.{take-append-seam}
-use lib.Dec.{T, eqb, leb, le→leb, eqb→eq}
-use Rattle.topology.specs.Check.{Verdict, accepted, verdict}
+use lib.Dec.{T, eqb, leb, le→leb}
+use Rattle.topology.specs.Check.{accepted, verdict}
 use Rattle.topology.specs.Net.{netOf}
-use Rattle.topology.specs.Accepted.{Accepted}
 use Rattle.topology.proofs.Tests.{T-both, eq→eqb, ne→neqb, cond-is, cond-not}
 use Rattle.topology.proofs.Laws.{accepted-exactly, accepted-well-formed}
-use Rattle.rehearsal.specs.Packets.{Cell, cellsOf, nothing}
+use Rattle.rehearsal.specs.Packets.{cellsOf, nothing}
 use Rattle.rehearsal.specs.Sound.{soundHeld}
-use Rattle.rehearsal.specs.Record.{Rehearsal, descriptionOf, soundOn, soundRecord, begun, Started, start}
+use Rattle.rehearsal.specs.Record.{Rehearsal, descriptionOf, soundOn, begun, start}
 use Rattle.rehearsal.proofs.Words.{no-words}
 use Rattle.rehearsal.proofs.Demand3.{nothing-sound}
 use Rattle.rehearsal.proofs.Calls.{Keeping, parts-sound}

@@ -1,17 +1,17 @@
 -- Channels' words and what they hold.
-use Prim.Native.Nat.{ℕ, suc, zero, _≤_, _<_}
+use Prim.Native.Nat.{ℕ, suc, zero, _≤_}
 use native.Mathlib.Omega.{arith}
 use mathlib.Core.List.{List, [], _∷_, map}
 use mathlib.Core.Path.{_≡_, refl, ap₂}
 use mathlib.Core.Logic.{_≢_}
-use lib.ListN.{getD, set, length, replicate}
+use lib.ListN.{getD, set, replicate}
 use lib.Dec.{T}
 use Rattle.topology.specs.Net.{Net, live}
 use Rattle.topology.proofs.Tests.{both-T}
 use Rattle.planner.specs.Table.{good}
 use Rattle.planner.proofs.Addresses.{good-is}
 use Rattle.rehearsal.specs.Packets.{Packet, sent, Cell, none, packet, Full, addressOf, cellOf, wordOf, cellsOf, wordsOf, nothing}
-use Rattle.rehearsal.specs.Sound.{soundAt, soundCell, soundFrom}
+use Rattle.rehearsal.specs.Sound.{soundCell, soundFrom}
 
 -- any map, element by element
 module _ {A B : Type 0} (f : A → B) where

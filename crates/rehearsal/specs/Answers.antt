@@ -1,7 +1,6 @@
 -- Orders and their answers.
 use Prim.Native.Nat.{ℕ, _+_, _*_, _^_}
-use mathlib.Core.Bool.{Bool, true, false, cond, not}
-use mathlib.Core.List.{List, [], _∷_}
+use mathlib.Core.Bool.{Bool, true, false, not}
 use Rattle.topology.specs.Check.{Verdict, refuse, accepted}
 use Rattle.topology.specs.Count.{both}
 

@@ -3,12 +3,12 @@ use Prim.Native.Nat.{ℕ}
 use mathlib.Core.List.{List, [], _∷_, _++_, map}
 use mathlib.Core.Bool.{Bool, true, cond}
 use mathlib.Core.Path.{_≡_, refl}
-use lib.ListN.{length, getD, set, take, replicate}
+use lib.ListN.{length, getD, set, take}
 use Rattle.topology.specs.Count.{any, least, first, count, bits}
 use Rattle.topology.specs.Check.{verdict, switchesFrom, cablesFrom}
-use Rattle.topology.specs.Net.{Net, netOf, leaving}
+use Rattle.topology.specs.Net.{netOf, leaving}
 use Rattle.topology.specs.Case.{Case, case, allRight, shown}
-use Rattle.topology.specs.Samples.{r5, twins}
+use Rattle.topology.specs.Samples.{r5}
 use Rattle.planner.specs.Tree.{within, root, level, above, up}
 use Rattle.planner.specs.Routes.{way, legalLength}
 use Rattle.planner.specs.Table.{holder, arrival, begins, entry}

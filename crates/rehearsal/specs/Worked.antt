@@ -1,5 +1,4 @@
 -- Document 01's examples W1 to W12, one list, proved together of the written rules.
-use Prim.Native.Nat.{ℕ}
 use mathlib.Core.List.{List, [], _∷_, map}
 use mathlib.Core.Bool.{true}
 use mathlib.Core.Path.{_≡_, refl}

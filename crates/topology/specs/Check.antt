@@ -4,7 +4,7 @@ use mathlib.Core.List.{List}
 use mathlib.Core.Bool.{Bool, true, false, not}
 use lib.ListN.{getD, length}
 use lib.Dec.{eqb, ltb, leb}
-use Rattle.topology.specs.Count.{both, either, bit, any}
+use Rattle.topology.specs.Count.{either, bit, any}
 use Rattle.topology.specs.Format.{mark, versionOf, switchCount, cableCount, sizeFor, uidAt, hostsAt, endSwitch, endPort, endsAt}
 
 pub record Verdict : Type 0 where

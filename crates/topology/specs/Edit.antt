@@ -1,7 +1,7 @@
 -- Finding, retiring and pulling.
-use Prim.Native.Nat.{ℕ, suc, zero, _+_, _*_, _-_, _/_, _%_}
+use Prim.Native.Nat.{ℕ, _+_, _*_, _-_, _/_, _%_}
 use mathlib.Core.List.{List, [], _∷_, _++_}
-use mathlib.Core.Bool.{Bool, true, false, cond, not}
+use mathlib.Core.Bool.{Bool, true, cond, not}
 use lib.ListN.{getD, length}
 use lib.Dec.{eqb, ltb, leb}
 use Rattle.topology.specs.Count.{either, least, those}

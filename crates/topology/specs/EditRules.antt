@@ -2,7 +2,6 @@
 use Prim.Native.Nat.{ℕ, _+_, _*_, _<_}
 use mathlib.Core.List.{List}
 use mathlib.Core.Path.{_≡_}
-use mathlib.Core.Logic.{_≢_}
 use lib.ListN.{getD, length}
 use Rattle.topology.specs.Format.{switchCount, cableCount, sizeFor, uidAt, hostsAt, endSwitch, endPort, EndOf}
 use Rattle.topology.specs.Edit.{retired, pulled}

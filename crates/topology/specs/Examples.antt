@@ -3,12 +3,12 @@ use Prim.Native.Nat.{ℕ}
 use mathlib.Core.List.{List, [], _∷_, _++_}
 use mathlib.Core.Bool.{true}
 use mathlib.Core.Path.{_≡_, refl}
-use lib.ListN.{length, take, drop, set}
+use lib.ListN.{take, drop, set}
 use Rattle.topology.specs.Count.{any, least, those, count}
 use Rattle.topology.specs.Format.{uidAt}
-use Rattle.topology.specs.Check.{Verdict, verdict, switchesFrom, cablesFrom}
-use Rattle.topology.specs.Net.{netOf, numberAt}
-use Rattle.topology.specs.Answers.{Reply, done, refused, Outcome, packed}
+use Rattle.topology.specs.Check.{verdict, switchesFrom, cablesFrom}
+use Rattle.topology.specs.Net.{numberAt}
+use Rattle.topology.specs.Answers.{Outcome, packed}
 use Rattle.topology.specs.Edit.{find, cableOf, retireVerdict, pullVerdict, retired, pulled, part, records, retire, pull}
 use Rattle.topology.specs.Case.{Case, case, allRight, shown}
 use Rattle.topology.specs.Samples.{r5, r4, one, pair, triangle, twins}
