@@ -8,7 +8,7 @@ use lib.ListN.{length, replicate}
 use lib.Dec.{T, not-T, leb}
 use Rattle.topology.specs.Check.{accepted, verdict}
 use Rattle.topology.specs.Net.{netOf}
-use Rattle.topology.specs.Refusals.{Returned}
+use Rattle.topology.specs.Refusals.{Returned, Wrong}
 use Rattle.topology.proofs.Tests.{both-T, or-not}
 use Rattle.rehearsal.specs.Packets.{cellsOf, nothing}
 use Rattle.rehearsal.specs.Answers.{Order, refused, isAccepted, verdictOf}
@@ -18,7 +18,7 @@ use Rattle.rehearsal.specs.Rules.{SoundOn, SoundRecord, Does, OrderWrong
 use Rattle.rehearsal.specs.Drains.{Drains}
 use Rattle.rehearsal.proofs.Simulation.{drains-under}
 use Rattle.rehearsal.proofs.Calls.{obeyed, unsound-on, cells-on, on-record, unsound-record, description-stays, words-drain, records-drain, Keeping}
-use Rattle.rehearsal.proofs.Starts.{start-begins, start-refused, begun-description, begun-room, begun-words, begun-keeping, begun-empty}
+use Rattle.rehearsal.proofs.Starts.{start-begins, start-refused, start-returned, begun-description, begun-room, begun-words, begun-keeping, begun-empty}
 use Rattle.rehearsal.proofs.Fitness.{sound-exactly, record-exactly}
 use Rattle.rehearsal.proofs.Doing.{does-so, refused-stays}
 use Rattle.rehearsal.proofs.Refusing.{words-returned, record-returned}
@@ -28,6 +28,7 @@ pub record StartLaws (d : List ℕ) : Type 0 where
   -- on any record: accepted where checking accepts, and then begun; else what checking says, and the record as it was
   pub begins : verdict d .number ≡ 0 → (r : Rehearsal) → start d r ≡ record { verdict = accepted; lent = begun d }
   pub refuses : (verdict d .number ≡ 0 → ⊥) → (r : Rehearsal) → start d r ≡ record { verdict = verdict d; lent = r }
+  pub refusal : (r : Rehearsal) → Returned (Wrong d) (start d r .verdict)
   -- a record just begun is sound, keeps d, and every channel is empty
   pub sound : verdict d .number ≡ 0 → SoundRecord (begun d)
   pub keeps : verdict d .number ≡ 0 → descriptionOf (begun d) ≡ d
@@ -61,6 +62,7 @@ pub start-laws : (d : List ℕ) → StartLaws d
 start-laws d = record {
   begins = start-begins d;
   refuses = start-refused d;
+  refusal = start-returned d;
   sound = λ ok. record-exactly (begun d) .0 (begun-keeping d ok .0);
   keeps = begun-description d;
   room = begun-room d;

@@ -1,5 +1,5 @@
 -- Starting: what the record then keeps, and what a refused start leaves.
-use Prim.Native.Nat.{ℕ, _-_, _≤_}
+use Prim.Native.Nat.{ℕ, _-_, _≤_, _<_}
 use native.Mathlib.Omega.{arith}
 use mathlib.Core.List.{List}
 use mathlib.Core.Path.{_≡_, refl, _∙_}
@@ -8,8 +8,10 @@ use lib.Seq.{take-append-seam}
 use lib.Dec.{T, eqb, leb, le→leb}
 use Rattle.topology.specs.Check.{accepted, verdict}
 use Rattle.topology.specs.Net.{netOf}
-use Rattle.topology.proofs.Tests.{T-both, eq→eqb, ne→neqb, cond-is, cond-not}
-use Rattle.topology.proofs.Laws.{accepted-exactly, accepted-well-formed}
+use Rattle.topology.proofs.Tests.{split, T-both, eq→eqb, ne→neqb, cond-is, cond-not}
+use Rattle.topology.proofs.Laws.{accepted-exactly, accepted-well-formed, refusal-laws}
+use Rattle.topology.specs.Refusals.{Returned, Wrong}
+use mathlib.Core.Logic.{_⊎_, inl, inr}
 use Rattle.rehearsal.specs.Packets.{cellsOf, nothing}
 use Rattle.rehearsal.specs.Sound.{soundHeld}
 use Rattle.rehearsal.specs.Record.{Rehearsal, descriptionOf, soundOn, begun, start}
@@ -27,6 +29,17 @@ module _ (d : List ℕ) where
   pub start-refused : (verdict d .number ≡ 0 → ⊥) → (r : Rehearsal) → start d r ≡ record { verdict = verdict d; lent = r }
   unfolding start
   start-refused bad r = cond-not (eqb (verdict d .number) 0) _ _ (ne→neqb (verdict d .number) 0 bad)
+
+  -- what it answers is the first refusal of the description that applies, or none
+  pub start-returned : (r : Rehearsal) → Returned (Wrong d) (start d r .verdict)
+  start-returned r = go (split 0 (verdict d .number))
+    where
+      check : Returned (Wrong d) (verdict d)
+      check = refusal-laws d .check
+
+      go : (0 < verdict d .number) ⊎ (verdict d .number ≤ 0) → Returned (Wrong d) (start d r .verdict)
+      go (inl h) = rw (start-refused (λ e. omega arith) r) check
+      go (inr h) = let e : verdict d .number ≡ 0 = omega arith in rw (start-begins e r) (rw (refusal-laws d .check-accepts e) at check)
 
   pub begun-words : begun d .words ≡ replicate 768 0
   unfolding begun
