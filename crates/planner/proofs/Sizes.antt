@@ -1,18 +1,18 @@
 -- How long the printed plan can be.
-use Prim.Native.Nat.{ℕ, suc, zero, _+_, _*_, _/_, _≤_, _<_}
-use mathlib.Core.Bool.{Bool, true, false}
+use Prim.Native.Nat.{ℕ, suc, _+_, _*_, _/_, _≤_, _<_}
+use mathlib.Core.Bool.{Bool, true}
 use mathlib.Core.List.{List, [], _∷_, _++_}
 use mathlib.Core.Path.{_≡_, refl}
 use native.Mathlib.Nat.{mul-suc}
 use native.Mathlib.Omega.{arith}
 use lib.ListN.{getD, length, length-append}
-use lib.Dec.{T, ltb, eqb, eqb→eq, ltb→lt, nltb→le, not-T}
+use lib.Dec.{ltb, eqb, eqb→eq, ltb→lt}
 use Rattle.topology.specs.Count.{those}
-use Rattle.topology.specs.Format.{switchCount, cableCount}
-use Rattle.topology.specs.Check.{Verdict, refuse, unless, verdict, markDiffers, otherVersion, badCount, otherLength, badUid, badHosts, badSwitches, badPorts, oneSwitch, portsTaken, switchesFrom, cablesFrom}
+use Rattle.topology.proofs.Laws.{refusal-laws}
+use Rattle.topology.specs.Check.{verdict}
 use Rattle.topology.specs.Net.{Net, WellFormed, netOf, target, live}
 use Rattle.topology.specs.Edit.{records}
-use Rattle.topology.proofs.Tests.{neither, choose, choose-cond}
+use Rattle.topology.proofs.Tests.{choose, choose-cond}
 use Rattle.topology.proofs.Channels.{target-switch}
 use Rattle.topology.proofs.Records.{those-listed}
 use Rattle.topology.proofs.Laws.{accepted-well-formed}
@@ -21,46 +21,6 @@ use Rattle.planner.specs.Table.{holder}
 use Rattle.planner.specs.Printed.{planWord, switchWord, linkWord, refusedWord, decimal, hex, fields, line, planLine, switchLine, linkLine, planText, printed}
 use Rattle.planner.proofs.Levels.{level-bound}
 use Rattle.planner.proofs.Digits.{decimal-length, hex-length}
-
--- A refusal's number and position are small.
-abbrev Small : Verdict → Type 0
-Small v = (v .number ≤ 12) × (v .position < 384)
-
-small-unless : (b : Bool) (k at : ℕ) (rest : Verdict) → k ≤ 12 → at < 384 → ((T b → ⊥) → Small rest) → Small (unless b (refuse k at) rest)
-small-unless true k at rest h l f = (h, l)
-small-unless false k at rest h l f = f (λ t. t)
-
-module _ (d : List ℕ) where
-  small-switches : (k i : ℕ) (rest : Verdict) → i + k ≤ 384 → Small rest → Small (switchesFrom d k i rest)
-  unfolding switchesFrom
-  small-switches zero i rest h s = s
-  small-switches (suc k) i rest h s =
-      small-unless (badUid d i) 7 i _ (omega arith) (omega arith) (λ _.
-      small-unless (badHosts d i) 8 i _ (omega arith) (omega arith) (λ _. small-switches k (suc i) rest (omega arith) s))
-
-  small-cables : (k c : ℕ) → c + k ≤ 384 → Small (cablesFrom d k c)
-  unfolding cablesFrom
-  small-cables zero c h = (omega arith, omega arith)
-  small-cables (suc k) c h =
-      small-unless (badSwitches d c) 9 c _ (omega arith) (omega arith) (λ _.
-      small-unless (badPorts d c) 10 c _ (omega arith) (omega arith) (λ _.
-      small-unless (oneSwitch d c) 11 c _ (omega arith) (omega arith) (λ _.
-      small-unless (portsTaken d c) 12 c _ (omega arith) (omega arith) (λ _. small-cables k (suc c) (omega arith)))))
-
-  verdict-small : Small (verdict d)
-  unfolding verdict
-  verdict-small =
-      let s = switchCount d in
-      let l = cableCount d in
-      small-unless (ltb (length d) 9) 1 0 _ (omega arith) (omega arith) (λ _.
-      small-unless (markDiffers d) 2 0 _ (omega arith) (omega arith) (λ _.
-      small-unless (otherVersion d) 3 0 _ (omega arith) (omega arith) (λ _.
-      small-unless (badCount d) 4 0 _ (omega arith) (omega arith) (λ a.
-      small-unless (ltb 384 l) 5 0 _ (omega arith) (omega arith) (λ b.
-      small-unless (otherLength d) 6 0 _ (omega arith) (omega arith) (λ _.
-      let few = nltb→le 64 s (not-T (ltb 64 s) (neither (eqb s 0) (ltb 64 s) a .1)) in
-      let many = nltb→le 384 l (not-T (ltb 384 l) b) in
-      small-switches s 0 (cablesFrom d l 0) (omega arith) (small-cables l 0 (omega arith))))))))
 
 -- Fields with a space before each.
 abbrev spaced : List (List ℕ) → ℕ
@@ -159,5 +119,5 @@ printed-length d =
     let v = verdict d in
     choose (λ (l : List ℕ). length l ≤ 12 + 64 * 25 + 384 * 10) (eqb (v .number) 0) (planText (netOf d)) (line refusedWord (decimal (v .number) ∷ decimal (v .position) ∷ []))
     (λ t. text-length (netOf d) (accepted-well-formed d (eqb→eq (v .number) 0 t)))
-    (λ f. let (k, at) = verdict-small d in
+    (λ f. let (k, at) = refusal-laws d .check-small in
     omega (arith, line-length refusedWord (decimal (v .number) ∷ decimal (v .position) ∷ []), two (v .number) (omega arith), three (v .position) (omega arith)))

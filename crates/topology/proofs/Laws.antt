@@ -20,6 +20,7 @@ use Rattle.topology.proofs.Tests.{split}
 use Rattle.topology.proofs.Channels.{back-first, back-second}
 use Rattle.topology.proofs.Firsts.{earlier-irreflexive, earlier-transitive, earlier-total, returned-once}
 use Rattle.topology.proofs.Returns.{verdict-returned}
+use Rattle.topology.proofs.Small.{verdict-small}
 use Rattle.topology.proofs.Prefix.{prefix-enough}
 use Rattle.topology.proofs.Verdicts.{wrong-number, verdict-zero, verdict-rule}
 use Rattle.topology.proofs.Soundness.{well-formed, numbers-grow, numbers-differ}
@@ -60,6 +61,7 @@ pub record RefusalLaws (d : List ℕ) : Type 0 where
   pub check : Returned (Wrong d) (verdict d)
   pub check-numbers : {k i : ℕ} → Wrong d k i → (0 < k) × (k ≤ 12)
   pub check-accepts : verdict d .number ≡ 0 → verdict d ≡ accepted
+  pub check-small : (verdict d .number ≤ 12) × (verdict d .position < 384)
   -- to keep 2,058 bytes of a longer input is enough
   pub check-prefix : verdict (take 2058 d) ≡ verdict d
   -- the first of the job's refusals that applies, and what 0 says
@@ -76,6 +78,7 @@ refusal-laws d = record {
   check = verdict-returned d;
   check-numbers = wrong-number d;
   check-accepts = λ e. verdict-zero d e .0;
+  check-small = verdict-small d;
   check-prefix = prefix-enough d;
   retire-returns = retire-returned d;
   retire-accepts = retire-allowed d;

@@ -26,7 +26,7 @@ abbrev long : List ℕ → Verdict
 long d =
     unless (markDiffers d) (refuse 2 0)
     (unless (otherVersion d) (refuse 3 0)
-    (unless (badCount d) (refuse 4 0)
+    (unless (badCount (switchCount d)) (refuse 4 0)
     (unless (ltb 384 (cableCount d)) (refuse 5 0) (refuse 6 0))))
 
 long-refused : (d : List ℕ) → 2057 < length d → verdict d ≡ long d
@@ -35,11 +35,11 @@ long-refused d h =
     unless-same (ltb (length d) 9) (refuse 1 0) _ (long d) (λ _.
     unless-same (markDiffers d) (refuse 2 0) _ _ (λ _.
     unless-same (otherVersion d) (refuse 3 0) _ _ (λ _.
-    unless-same (badCount d) (refuse 4 0) _ _ (λ s.
+    unless-same (badCount (switchCount d)) (refuse 4 0) _ _ (λ s.
     unless-same (ltb 384 (cableCount d)) (refuse 5 0) _ _ (λ l.
     unless-met (otherLength d) (refuse 6 0) _ (other s l)))))) ∙ short (ltb (length d) 9) (λ t. omega (arith, ltb→lt (length d) 9 t))
   where
-    other : (T (badCount d) → ⊥) → (T (ltb 384 (cableCount d)) → ⊥) → T (otherLength d)
+    other : (T (badCount (switchCount d)) → ⊥) → (T (ltb 384 (cableCount d)) → ⊥) → T (otherLength d)
     other s l =
         let (_, m) = neither (eqb (switchCount d) 0) (ltb 64 (switchCount d)) s in
         let few : 64 < switchCount d → ⊥ = λ h. m (lt→ltb 64 (switchCount d) h) in

@@ -34,7 +34,7 @@ module _ (from : ℕ → ℕ → Verdict) (rule : ℕ → Verdict → Verdict) (
 module _ (d : List ℕ) where
   -- The tests, in order: of the header, of a switch record, of a cable record.
   abbrev front : Rules
-  front = (ltb (length d) 9, 1) ∷ (markDiffers d, 2) ∷ (otherVersion d, 3) ∷ (badCount d, 4) ∷ (ltb 384 (cableCount d), 5) ∷ (otherLength d, 6) ∷ []
+  front = (ltb (length d) 9, 1) ∷ (markDiffers d, 2) ∷ (otherVersion d, 3) ∷ (badCount (switchCount d), 4) ∷ (ltb 384 (cableCount d), 5) ∷ (otherLength d, 6) ∷ []
 
   abbrev ofSwitch : ℕ → Rules
   ofSwitch i = (badUid d i, 7) ∷ (badHosts d i, 8) ∷ []
@@ -47,7 +47,7 @@ module _ (d : List ℕ) where
   nowhere-rule c = end-rule c (badSwitch d) (λ e. le-rule (switchCount d) (endSwitch d e))
 
   outside-rule : (c : ℕ) → T (badPorts d c) ↔ ((e : ℕ) × EndOf c e × ((endPort d e ≡ 0) ⊎ (12 < endPort d e)))
-  outside-rule c = end-rule c (badPort d) (port-rule d)
+  outside-rule c = end-rule c (λ e. badPort (endPort d e)) (port-rule d)
 
   loop-rule : (c : ℕ) → T (oneSwitch d c) ↔ (endSwitch d (2 * c) ≡ endSwitch d (2 * c + 1))
   loop-rule c = eq-rule (endSwitch d (2 * c)) (endSwitch d (2 * c + 1))

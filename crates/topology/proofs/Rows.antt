@@ -70,7 +70,7 @@ module _ (d : List ℕ) where
       which (suc (suc zero)) h x = inr (inr x)
       which (suc (suc (suc k))) h x = absurd (omega arith)
 
-  pub count-rule : T (badCount d) ↔ ((switchCount d ≡ 0) ⊎ (64 < switchCount d))
+  pub count-rule : T (badCount (switchCount d)) ↔ ((switchCount d ≡ 0) ⊎ (64 < switchCount d))
   count-rule = or-rule (eqb (switchCount d) 0) (ltb 64 (switchCount d)) (eq-rule (switchCount d) 0) (lt-rule 64 (switchCount d))
 
   pub uid-rule : (i : ℕ) → T (badUid d i) ↔ ((uidAt d i ≡ 0) ⊎ ((j : ℕ) × (j < i) × (uidAt d j ≡ uidAt d i)))
@@ -89,7 +89,7 @@ module _ (d : List ℕ) where
       halves : T (badHosts d i) ↔ (T (bit m 0) ⊎ (8192 ≤ m))
       halves = or-rule (bit m 0) (leb 8192 m) (λ t. t, λ t. t) (le-rule 8192 m)
 
-  pub port-rule : (e : ℕ) → T (badPort d e) ↔ ((endPort d e ≡ 0) ⊎ (12 < endPort d e))
+  pub port-rule : (e : ℕ) → T (badPort (endPort d e)) ↔ ((endPort d e ≡ 0) ⊎ (12 < endPort d e))
   port-rule e = or-rule (eqb (endPort d e) 0) (ltb 12 (endPort d e)) (eq-rule (endPort d e) 0) (lt-rule 12 (endPort d e))
 
   pub ends-rule : (i p e : ℕ) → T (endsAt d i p e) ↔ ((endSwitch d e ≡ i) × (endPort d e ≡ p))

@@ -35,8 +35,8 @@ abbrev pub otherVersion : List ℕ → Bool
 otherVersion d = not (eqb (versionOf d) 1)
 
 -- 4: S is 0 or above 64
-abbrev pub badCount : List ℕ → Bool
-badCount d = either (eqb (switchCount d) 0) (ltb 64 (switchCount d))
+abbrev pub badCount : ℕ → Bool
+badCount s = either (eqb s 0) (ltb 64 s)
 
 -- 6: the length is not the one that S and L ask for
 abbrev pub otherLength : List ℕ → Bool
@@ -58,11 +58,11 @@ abbrev pub badSwitches : List ℕ → ℕ → Bool
 badSwitches d c = either (badSwitch d (2 * c)) (badSwitch d (2 * c + 1))
 
 -- 10: an end's port is 0 or above 12
-abbrev pub badPort : List ℕ → ℕ → Bool
-badPort d e = either (eqb (endPort d e) 0) (ltb 12 (endPort d e))
+abbrev pub badPort : ℕ → Bool
+badPort p = either (eqb p 0) (ltb 12 p)
 
 abbrev pub badPorts : List ℕ → ℕ → Bool
-badPorts d c = either (badPort d (2 * c)) (badPort d (2 * c + 1))
+badPorts d c = either (badPort (endPort d (2 * c))) (badPort (endPort d (2 * c + 1)))
 
 -- 11: both ends are on one switch
 abbrev pub oneSwitch : List ℕ → ℕ → Bool
@@ -105,5 +105,5 @@ verdict d =
     unless (ltb (length d) 9) (refuse 1 0)
     (unless (markDiffers d) (refuse 2 0)
     (unless (otherVersion d) (refuse 3 0)
-    (unless (badCount d) (refuse 4 0)
+    (unless (badCount (switchCount d)) (refuse 4 0)
     (unless (ltb 384 (cableCount d)) (refuse 5 0) sized))))
