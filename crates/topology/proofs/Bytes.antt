@@ -5,7 +5,7 @@ use mathlib.Core.Bool.{Bool, true, not}
 use native.Mathlib.Omega.{arith}
 use lib.ListN.{getD, length}
 use lib.Dec.{eqb, ltb, lit<}
-use Rattle.topology.specs.Format.{Bytes, switchCount, cableCount, cableAt}
+use Rattle.topology.specs.Format.{Bytes, switchCount, cableCount, cablesAt}
 use Rattle.topology.specs.Count.{those}
 use Rattle.topology.specs.Edit.{header, switchRecord, cableRecord, records, part, fall, clear, retired, pulled}
 use Rattle.topology.proofs.Tests.{choose-cond}
@@ -52,8 +52,8 @@ module _ (d : List ℕ) (b : Bytes d) where
 
     cable-bytes : (c : ℕ) → Bytes (cableRecord d newPosition c)
     cable-bytes c =
-        let at = cableAt d 0 + 2 * (2 * c) in
-        let to = cableAt d 0 + 2 * (2 * c + 1) in
+        let at = cablesAt d + 2 * (2 * c) in
+        let to = cablesAt d + 2 * (2 * c + 1) in
         each (cableRecord d newPosition c) (moved at, (b (at + 1), (moved to, (b (to + 1), tt))))
 
     part-bytes : (ss cs : List ℕ) → length ss < 65536 → length cs < 65536 → Bytes (part d ss cs newPosition)

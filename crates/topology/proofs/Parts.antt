@@ -99,7 +99,7 @@ module _ (d ss cs : List ℕ) (newPosition : ℕ → ℕ) where
       at b x f l = rw f (cable-byte (e / 2) b (omega arith) l)
 
       start : ℕ
-      start = 9 + 8 * switchCount new + 4 * 0
+      start = 9 + 8 * switchCount new
 
       starts : start ≡ 9 + 8 * length ss
       starts = omega (arith, part-switches)
