@@ -7,7 +7,7 @@ use mathlib.Core.Path.{_≡_, refl, _∙_, ap}
 use lib.ListN.{getD}
 use lib.Dec.{T, T-not, not-T, ltb→lt, nltb→le}
 use Rattle.topology.specs.Count.{both}
-use Rattle.topology.specs.Check.{refuse, accepted, unless}
+use Rattle.topology.specs.Check.{refuse, accepted, whenever}
 use Rattle.topology.specs.Net.{Net, WellFormed, target, inPort, live, delivers}
 use Rattle.topology.specs.Refusals.{Returned}
 use Rattle.topology.proofs.Tests.{surely, both-T, T-both}
@@ -43,7 +43,7 @@ module _ (n : Net) (w : WellFormed n) (words : List ℕ) where
       abbrev heads : Cell → Rules
       heads x = (not (full? x), 20) ∷ (not (allows n (entries n) ch (addressOf x) p), 21) ∷ (both (not out) (taken? held to), 22) ∷ []
 
-      last-verdict : (b t : Bool) → verdictOf (cond b (delivered p) (needs (not t) 22 (moved to))) ≡ unless (both (not b) t) (refuse 22 0) accepted
+      last-verdict : (b t : Bool) → verdictOf (cond b (delivered p) (needs (not t) 22 (moved to))) ≡ whenever (both (not b) t) (refuse 22 0) accepted
       unfolding needs
       last-verdict true t = refl
       last-verdict false true = refl
@@ -53,14 +53,14 @@ module _ (n : Net) (w : WellFormed n) (words : List ℕ) where
       head-chain none = refl
       head-chain (packet pk) =
           needs-verdict (allows n (entries n) ch (pk .address) p) 21 _
-          ∙ ap (unless (not (allows n (entries n) ch (pk .address) p)) (refuse 21 0)) (last-verdict out (taken? held to))
+          ∙ ap (whenever (not (allows n (entries n) ch (pk .address) p)) (refuse 21 0)) (last-verdict out (taken? held to))
 
       abbrev advancings : Rules
       advancings = (not (live n ch), 18) ∷ heads cell
 
       advance-chain : verdictOf (advanceAnswer n (entries n) held ch p) ≡ chain 0 advancings accepted
       unfolding advanceAnswer
-      advance-chain = needs-verdict (live n ch) 18 _ ∙ ap (unless (not (live n ch)) (refuse 18 0)) (head-chain cell)
+      advance-chain = needs-verdict (live n ch) 18 _ ∙ ap (whenever (not (live n ch)) (refuse 18 0)) (head-chain cell)
 
       abbrev word : ℕ
       word = getD words ch 0

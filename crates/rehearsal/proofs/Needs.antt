@@ -7,13 +7,13 @@ use mathlib.Core.Path.{_≡_, refl}
 use mathlib.Core.Logic.{_≢_}
 use lib.ListN.{getD}
 use lib.Dec.{T}
-use Rattle.topology.specs.Check.{refuse, unless}
+use Rattle.topology.specs.Check.{refuse, whenever}
 use Rattle.rehearsal.specs.Packets.{full?, cellOf, cellsOf}
 use Rattle.rehearsal.specs.Answers.{Answer, verdictOf}
 use Rattle.rehearsal.specs.Moves.{needs, taken?}
 use Rattle.rehearsal.proofs.Words.{cell-at}
 
-pub needs-verdict : (b : Bool) (k : ℕ) (x : Answer) → verdictOf (needs b k x) ≡ unless (not b) (refuse k 0) (verdictOf x)
+pub needs-verdict : (b : Bool) (k : ℕ) (x : Answer) → verdictOf (needs b k x) ≡ whenever (not b) (refuse k 0) (verdictOf x)
 unfolding needs
 needs-verdict true k x = refl
 needs-verdict false k x = refl

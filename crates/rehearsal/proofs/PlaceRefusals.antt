@@ -6,7 +6,7 @@ use mathlib.Core.Path.{_≡_, refl, sym, _∙_, ap}
 use mathlib.Core.Logic.{inl, inr}
 use lib.Dec.{T, T-not, not-T, ltb, lt→ltb, ltb→lt}
 use Rattle.topology.specs.Count.{both}
-use Rattle.topology.specs.Check.{refuse, accepted, unless}
+use Rattle.topology.specs.Check.{refuse, accepted, whenever}
 use Rattle.topology.specs.Net.{Net, WellFormed, live, leaving}
 use Rattle.topology.specs.Refusals.{Returned}
 use Rattle.topology.proofs.Tests.{decide, surely, both-T, T-both}
@@ -47,9 +47,9 @@ module _ (n : Net) (w : WellFormed n) (words : List ℕ) where
       unfolding placeAnswer
       place-chain =
           needs-verdict (ltb s (n .switches)) 18 _
-          ∙ ap (unless (not (ltb s (n .switches))) (refuse 18 0)) (needs-verdict (good n a) 19 _
-          ∙ ap (unless (not (good n a)) (refuse 19 0)) (needs-verdict (both (entries n s 0 a p) (live n c)) 21 _
-          ∙ ap (unless (not (both (entries n s 0 a p) (live n c))) (refuse 21 0)) (needs-verdict (not (taken? held c)) 22 (moved c))))
+          ∙ ap (whenever (not (ltb s (n .switches))) (refuse 18 0)) (needs-verdict (good n a) 19 _
+          ∙ ap (whenever (not (good n a)) (refuse 19 0)) (needs-verdict (both (entries n s 0 a p) (live n c)) 21 _
+          ∙ ap (whenever (not (both (entries n s 0 a p) (live n c))) (refuse 21 0)) (needs-verdict (not (taken? held c)) 22 (moved c))))
 
       abbrev Placing : ℕ → ℕ → Type 0
       Placing = PlaceWrong Sound n words k a p

@@ -7,23 +7,23 @@ use Prim.Native.Nat.{ℕ, _≤_, _<_}
 use native.Mathlib.Omega.{arith}
 use lib.Dec.{T, eqb, ltb, leb, eqb→eq, ltb→lt, leb→le}
 use Rattle.topology.specs.Count.{both, Lower}
-use Rattle.topology.specs.Check.{Verdict, refuse, accepted, unless}
+use Rattle.topology.specs.Check.{Verdict, refuse, accepted, whenever}
 use Rattle.topology.specs.Refusals.{stage, Earlier}
 use Rattle.topology.proofs.Tests.{both-T, choose-cond}
 use Rattle.topology.proofs.Firsts.{NotLater, Warranted, earlier-irreflexive, earlier-asymmetric, earlier-number, earlier-upto, Settled}
 
 -- One test.
-warranted-unless : (P : ℕ → ℕ → Type 0) (b : Bool) (k i : ℕ) (rest : Verdict) → (T b → P k i) → ((T b → ⊥) → Warranted P rest) → Warranted P (unless b (refuse k i) rest)
-warranted-unless P true k i rest p s = inr (p tt)
-warranted-unless P false k i rest p s = s (λ t. t)
+warranted-whenever : (P : ℕ → ℕ → Type 0) (b : Bool) (k i : ℕ) (rest : Verdict) → (T b → P k i) → ((T b → ⊥) → Warranted P rest) → Warranted P (whenever b (refuse k i) rest)
+warranted-whenever P true k i rest p s = inr (p tt)
+warranted-whenever P false k i rest p s = s (λ t. t)
 
 -- it is met
-meet : (b : Bool) (k i : ℕ) (rest : Verdict) → 0 < k → T b → NotLater (unless b (refuse k i) rest) k i
+meet : (b : Bool) (k i : ℕ) (rest : Verdict) → 0 < k → T b → NotLater (whenever b (refuse k i) rest) k i
 meet true k i rest h t = (h, earlier-irreflexive k i)
 meet false k i rest h t = absurd t
 
 -- it comes before the one that is meant
-pass : (b : Bool) (m j : ℕ) (rest : Verdict) (k i : ℕ) → 0 < m → Earlier m j k i → NotLater rest k i → NotLater (unless b (refuse m j) rest) k i
+pass : (b : Bool) (m j : ℕ) (rest : Verdict) (k i : ℕ) → 0 < m → Earlier m j k i → NotLater rest k i → NotLater (whenever b (refuse m j) rest) k i
 pass true m j rest k i h e l = (h, earlier-asymmetric m j k i e)
 pass false m j rest k i h e l = l
 
@@ -33,7 +33,7 @@ Rules = List (Bool × ℕ)
 
 abbrev pub chain : ℕ → Rules → Verdict → Verdict
 chain i [] rest = rest
-chain i (r ∷ rs) rest = unless (r .0) (refuse (r .1) i) (chain i rs rest)
+chain i (r ∷ rs) rest = whenever (r .0) (refuse (r .1) i) (chain i rs rest)
 
 -- their numbers ascend, above m and up to b
 abbrev pub ascends : ℕ → Rules → ℕ → Bool
@@ -56,7 +56,7 @@ testOf (r ∷ rs) k = cond (eqb k (r .1)) (r .0) (testOf rs k)
 
 pub chain-warranted : (P : ℕ → ℕ → Type 0) (i : ℕ) (rs : Rules) (rest : Verdict) → Says P i rs → Warranted P rest → Warranted P (chain i rs rest)
 chain-warranted P i [] rest e s = s
-chain-warranted P i (r ∷ rs) rest (here, later) s = warranted-unless P (r .0) (r .1) i (chain i rs rest) here (λ n. chain-warranted P i rs rest (later n) s)
+chain-warranted P i (r ∷ rs) rest (here, later) s = warranted-whenever P (r .0) (r .1) i (chain i rs rest) here (λ n. chain-warranted P i rs rest (later n) s)
 
 -- the first ascends above m, and the rest above it
 rises : (m : ℕ) (r : Bool × ℕ) (rs : Rules) (b : ℕ) → T (ascends m (r ∷ rs) b) → (m < r .1) × T (ascends (r .1) rs b)

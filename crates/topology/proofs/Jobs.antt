@@ -6,7 +6,7 @@ use mathlib.Core.List.{List}
 use Prim.Native.Nat.{ℕ, _<_}
 use native.Mathlib.Omega.{arith}
 use lib.Dec.{T, eqb, eqb→eq}
-use Rattle.topology.specs.Check.{Verdict, accepted, unless, verdict}
+use Rattle.topology.specs.Check.{Verdict, accepted, whenever, verdict}
 use Rattle.topology.specs.Refusals.{stage, Wrong}
 use Rattle.topology.specs.Accepted.{Accepted}
 use Rattle.topology.specs.Edit.{checked}
@@ -21,7 +21,7 @@ module _ (d : List ℕ) where
   pub checked-cases : (Q : Verdict → Type 0) (rest : Verdict) → (Accepted d → Q rest) → (0 < verdict d .number → Q (verdict d)) → Q (checked d rest)
   checked-cases Q rest p q = go (eqb (verdict d .number) 0) (λ t. verdict-rule d .0 (eqb→eq (verdict d .number) 0 t)) (λ f. positive (λ e. f (eq→eqb (verdict d .number) 0 e)))
     where
-      go : (b : Bool) → (T b → Accepted d) → ((T b → ⊥) → 0 < verdict d .number) → Q (unless (not b) (verdict d) rest)
+      go : (b : Bool) → (T b → Accepted d) → ((T b → ⊥) → 0 < verdict d .number) → Q (whenever (not b) (verdict d) rest)
       go true f g = p (f tt)
       go false f g = q (g (λ t. t))
 

@@ -9,35 +9,35 @@ use lib.ListN.{getD, length, take}
 use lib.Seq.{take-all, length-take-le, getD-take}
 use lib.Dec.{T, eqb, ltb, ltb→lt, lt→ltb, lit<}
 use Rattle.topology.specs.Format.{switchCount, cableCount, sizeFor}
-use Rattle.topology.specs.Check.{Verdict, refuse, unless, verdict, markDiffers, otherVersion, badCount, otherLength}
+use Rattle.topology.specs.Check.{Verdict, refuse, whenever, verdict, markDiffers, otherVersion, badCount, otherLength}
 use Rattle.topology.proofs.Tests.{split, neither, ne→neqb}
 
-unless-met : (b : Bool) (v rest : Verdict) → T b → unless b v rest ≡ v
-unless-met true v rest t = refl
-unless-met false v rest t = absurd t
+whenever-met : (b : Bool) (v rest : Verdict) → T b → whenever b v rest ≡ v
+whenever-met true v rest t = refl
+whenever-met false v rest t = absurd t
 
 -- only the rest differs, and only where it is reached
-unless-same : (b : Bool) (v x y : Verdict) → ((T b → ⊥) → x ≡ y) → unless b v x ≡ unless b v y
-unless-same true v x y e = refl
-unless-same false v x y e = e (λ t. t)
+whenever-same : (b : Bool) (v x y : Verdict) → ((T b → ⊥) → x ≡ y) → whenever b v x ≡ whenever b v y
+whenever-same true v x y e = refl
+whenever-same false v x y e = e (λ t. t)
 
 -- what is above 2,057 bytes is refused by 2 to 6, read from the first nine bytes
 abbrev long : List ℕ → Verdict
 long d =
-    unless (markDiffers d) (refuse 2 0)
-    (unless (otherVersion d) (refuse 3 0)
-    (unless (badCount (switchCount d)) (refuse 4 0)
-    (unless (ltb 384 (cableCount d)) (refuse 5 0) (refuse 6 0))))
+    whenever (markDiffers d) (refuse 2 0)
+    (whenever (otherVersion d) (refuse 3 0)
+    (whenever (badCount (switchCount d)) (refuse 4 0)
+    (whenever (ltb 384 (cableCount d)) (refuse 5 0) (refuse 6 0))))
 
 long-refused : (d : List ℕ) → 2057 < length d → verdict d ≡ long d
 unfolding verdict
 long-refused d h =
-    unless-same (ltb (length d) 9) (refuse 1 0) _ (long d) (λ _.
-    unless-same (markDiffers d) (refuse 2 0) _ _ (λ _.
-    unless-same (otherVersion d) (refuse 3 0) _ _ (λ _.
-    unless-same (badCount (switchCount d)) (refuse 4 0) _ _ (λ s.
-    unless-same (ltb 384 (cableCount d)) (refuse 5 0) _ _ (λ l.
-    unless-met (otherLength d) (refuse 6 0) _ (other s l)))))) ∙ short (ltb (length d) 9) (λ t. omega (arith, ltb→lt (length d) 9 t))
+    whenever-same (ltb (length d) 9) (refuse 1 0) _ (long d) (λ _.
+    whenever-same (markDiffers d) (refuse 2 0) _ _ (λ _.
+    whenever-same (otherVersion d) (refuse 3 0) _ _ (λ _.
+    whenever-same (badCount (switchCount d)) (refuse 4 0) _ _ (λ s.
+    whenever-same (ltb 384 (cableCount d)) (refuse 5 0) _ _ (λ l.
+    whenever-met (otherLength d) (refuse 6 0) _ (other s l)))))) ∙ short (ltb (length d) 9) (λ t. omega (arith, ltb→lt (length d) 9 t))
   where
     other : (T (badCount (switchCount d)) → ⊥) → (T (ltb 384 (cableCount d)) → ⊥) → T (otherLength d)
     other s l =
@@ -46,7 +46,7 @@ long-refused d h =
         let fewer : 384 < cableCount d → ⊥ = λ h. l (lt→ltb 384 (cableCount d) h) in
         ne→neqb (length d) (sizeFor (switchCount d) (cableCount d)) (λ e. omega arith)
 
-    short : (b : Bool) → (T b → ⊥) → unless b (refuse 1 0) (long d) ≡ long d
+    short : (b : Bool) → (T b → ⊥) → whenever b (refuse 1 0) (long d) ≡ long d
     short true n = absurd (n tt)
     short false n = refl
 

@@ -18,9 +18,9 @@ abbrev pub accepted : Verdict
 accepted = refuse 0 0
 
 -- the first that applies is returned: a test, what it gives, and the rest
-abbrev pub unless : Bool → Verdict → Verdict → Verdict
-unless true v rest = v
-unless false v rest = rest
+abbrev pub whenever : Bool → Verdict → Verdict → Verdict
+whenever true v rest = v
+whenever false v rest = rest
 
 -- letter k is not the mark's
 abbrev pub letterDiffers : List ℕ → ℕ → Bool
@@ -77,15 +77,15 @@ portsTaken d c = either (portTaken d c (2 * c)) (portTaken d c (2 * c + 1))
 
 -- one switch record, 7 before 8
 abbrev pub switchRule : List ℕ → ℕ → Verdict → Verdict
-switchRule d i rest = unless (badUid d i) (refuse 7 i) (unless (badHosts d i) (refuse 8 i) rest)
+switchRule d i rest = whenever (badUid d i) (refuse 7 i) (whenever (badHosts d i) (refuse 8 i) rest)
 
 -- one cable record, 9, 10, 11, 12
 abbrev pub cableRule : List ℕ → ℕ → Verdict → Verdict
 cableRule d c rest =
-    unless (badSwitches d c) (refuse 9 c)
-    (unless (badPorts d c) (refuse 10 c)
-    (unless (oneSwitch d c) (refuse 11 c)
-    (unless (portsTaken d c) (refuse 12 c) rest)))
+    whenever (badSwitches d c) (refuse 9 c)
+    (whenever (badPorts d c) (refuse 10 c)
+    (whenever (oneSwitch d c) (refuse 11 c)
+    (whenever (portsTaken d c) (refuse 12 c) rest)))
 
 -- the switch records from i on, in file order
 unfoldable pub switchesFrom : List ℕ → ℕ → ℕ → Verdict → Verdict
@@ -101,9 +101,9 @@ cablesFrom d (suc k) c = let more = cablesFrom d k (suc c) in cableRule d c more
 unfoldable pub verdict : List ℕ → Verdict
 verdict d =
     let records = switchesFrom d (switchCount d) 0 (cablesFrom d (cableCount d) 0) in
-    let sized = unless (otherLength d) (refuse 6 0) records in
-    unless (ltb (length d) 9) (refuse 1 0)
-    (unless (markDiffers d) (refuse 2 0)
-    (unless (otherVersion d) (refuse 3 0)
-    (unless (badCount (switchCount d)) (refuse 4 0)
-    (unless (ltb 384 (cableCount d)) (refuse 5 0) sized))))
+    let sized = whenever (otherLength d) (refuse 6 0) records in
+    whenever (ltb (length d) 9) (refuse 1 0)
+    (whenever (markDiffers d) (refuse 2 0)
+    (whenever (otherVersion d) (refuse 3 0)
+    (whenever (badCount (switchCount d)) (refuse 4 0)
+    (whenever (ltb 384 (cableCount d)) (refuse 5 0) sized))))

@@ -6,7 +6,7 @@ use lib.ListN.{getD, length}
 use lib.Dec.{eqb, ltb, leb}
 use Rattle.topology.specs.Count.{either, least, those}
 use Rattle.topology.specs.Format.{mark, switchCount, cableCount, uidAt, endSwitch, endPort, endsAt}
-use Rattle.topology.specs.Check.{Verdict, refuse, accepted, unless, verdict}
+use Rattle.topology.specs.Check.{Verdict, refuse, accepted, whenever, verdict}
 use Rattle.topology.specs.Answers.{Outcome, outcome}
 
 -- the record with that UID, all 48 bits compared; past the last where none has it
@@ -69,15 +69,15 @@ pulled d c = part d (those (switchCount d) 0 (λ j. true)) (otherCables d c) (λ
 
 -- the refusal of a job that checks the description first
 abbrev pub checked : List ℕ → Verdict → Verdict
-checked d rest = unless (not (eqb (verdict d .number) 0)) (verdict d) rest
+checked d rest = whenever (not (eqb (verdict d .number) 0)) (verdict d) rest
 
 -- 1 to 12, then 13, 14, 16, where room bytes are lent
 unfoldable pub retireVerdict : List ℕ → ℕ → ℕ → Verdict
 retireVerdict d u room =
     let i = find d u in
-    let full = unless (ltb room (length (retired d i))) (refuse 16 0) accepted in
-    let only = unless (eqb (switchCount d) 1) (refuse 14 0) full in
-    let unknown = unless (leb (switchCount d) i) (refuse 13 0) only in
+    let full = whenever (ltb room (length (retired d i))) (refuse 16 0) accepted in
+    let only = whenever (eqb (switchCount d) 1) (refuse 14 0) full in
+    let unknown = whenever (leb (switchCount d) i) (refuse 13 0) only in
     checked d unknown
 
 -- 1 to 12, then 13, 15, 16
@@ -85,9 +85,9 @@ unfoldable pub pullVerdict : List ℕ → ℕ → ℕ → ℕ → Verdict
 pullVerdict d u p room =
     let i = find d u in
     let c = cableOf d i p in
-    let full = unless (ltb room (length (pulled d c))) (refuse 16 0) accepted in
-    let none = unless (leb (cableCount d) c) (refuse 15 0) full in
-    let unknown = unless (leb (switchCount d) i) (refuse 13 0) none in
+    let full = whenever (ltb room (length (pulled d c))) (refuse 16 0) accepted in
+    let none = whenever (leb (cableCount d) c) (refuse 15 0) full in
+    let unknown = whenever (leb (switchCount d) i) (refuse 13 0) none in
     checked d unknown
 
 -- the new length and the new description at the start of the output
