@@ -47,11 +47,12 @@ unfoldable pub hex : ℕ → ℕ → List ℕ
 hex zero x = []
 hex (suc k) x = hex k (x / 16) ++ hexDigit (x % 16) ∷ []
 
--- a word and fields after it, one space before each, and a newline
+-- fields, one space before each, and a newline
 unfoldable pub fields : List (List ℕ) → List ℕ
 fields [] = newline ∷ []
 fields (f ∷ fs) = space ∷ f ++ fields fs
 
+-- a word and its fields
 abbrev pub line : List ℕ → List (List ℕ) → List ℕ
 line word fs = word ++ fields fs
 

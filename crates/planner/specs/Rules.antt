@@ -1,4 +1,4 @@
--- The rules as the papers say them, over routes written out as lists of channels. Nothing here computes; the laws tie the computed definitions to it.
+-- The rules as the papers say them, over routes written out as lists of channels: nothing is searched for. Levels and directions are those of Tree; the laws tie the searches to these rules.
 use Prim.Native.Nat.{ℕ, suc, _+_, _*_, _≤_, _<_}
 use mathlib.Core.List.{List, [], _∷_, _++_, List·Memᴰ}
 use mathlib.Core.Bool.{not}

@@ -31,7 +31,7 @@ not-inside h = let z : _≡_ {A = ℕ} 0 1 = cc in absurd (omega arith)
 module _ (n : Net) (holds : Tables) (Fit : ℕ → ℕ → Type 0) (rank : ℕ → ℕ) (law : Draining n holds Fit rank) where
   one-apart : (held : List Cell) {o : Order} {x : Answer} {m : List Cell} → Effect n holds held o x m → Facts n Fit held → {a b : ℕ} (c d : ℕ)
       → At n a held (inChannel c) → At n b held (inChannel d) → c ≢ d → Apart (hop n (inChannel c) x o) (hop n (inChannel d) x o)
-  one-apart held (stays r) s c d ca db ne = λ e p q. ne (cc)
+  one-apart held (stays h) s c d ca db ne = λ e p q. ne (cc)
   one-apart held (placed sw g h k f) s c d ca db ne = λ e p q. ne (cc)
   one-apart held (goes {ch = ch} {p = p} k e al on f) s c d ca db ne =
       shift c d ch (inChannel (onward n ch p)) ne (λ i h.

@@ -2,14 +2,14 @@
 use Prim.Native.Nat.{ℕ, _%_}
 use native.Mathlib.Omega.{arith}
 use mathlib.Core.List.{List}
-use mathlib.Core.Path.{_≡_, refl, _∙_, ap₂}
+use mathlib.Core.Path.{_≡_, ap, refl, _∙_, ap₂}
 use lib.ListN.{getD, length, replicate, length-replicate}
 use lib.Dec.{T}
 use Rattle.topology.specs.Net.{Net, WellFormed}
 use Rattle.planner.specs.Routes.{legalLength, far}
 use Rattle.planner.specs.Table.{entry, destination}
 use Rattle.rehearsal.specs.Machine.{last, every}
-use Rattle.rehearsal.specs.Packets.{Packet, Cell, none, packet, Full, addressOf, nothing}
+use Rattle.rehearsal.specs.Packets.{Packet, sent, Cell, none, packet, Full, addressOf, nothing}
 use Rattle.rehearsal.specs.Answers.{Order, advances}
 use Rattle.rehearsal.specs.Moves.{entries, moving, rehearsal}
 use Rattle.rehearsal.specs.Sound.{soundAt, soundHeld}
@@ -28,7 +28,7 @@ use Rattle.rehearsal.proofs.Spending.{last-length, sound-last, spent, l
 use Rattle.rehearsal.proofs.Endings.{conserved, reached, idle}
 use Rattle.rehearsal.proofs.Identity.{At, keeps-address}
 use Rattle.rehearsal.proofs.Apart.{stay-apart}
-use Rattle.rehearsal.proofs.Origin.{each-home, delivery, empty-not, full-if}
+use Rattle.rehearsal.proofs.Origin.{entered-at, each-home, delivery, empty-not, full-if}
 
 bare : (ch : ℕ) → getD nothing ch none ≡ none
 unfolding nothing
@@ -112,6 +112,10 @@ module _ (n : Net) (w : WellFormed n) where
             home _ (goesTo n (moving n (entries n)) itself (SoundCells n) held os ch) (rw empty at (keeps-address n (entries n) Fit (rank n) law _ held os f (inChannel ch) p));
       }
 
+  -- a packet that is where it is said to be
+  there : (a c : ℕ) (held : List Cell) → At n a held (inChannel c) → getD held c none ≡ packet (sent a)
+  there a c held (pk, e, same) = e ∙ ap (λ (a : ℕ). packet (sent a)) same
+
   pub drains : Drains n (rehearsal n) itself (SoundCells n)
   unfolding rehearsal
   drains = record {
@@ -127,5 +131,6 @@ module _ (n : Net) (w : WellFormed n) where
         let q = whole (getD held d none) fd in
         stay-apart n (entries n) Fit (rank n) law _ _ held os (known held s) (inChannel c) (inChannel d) p q (λ e p q. ne (cc));
     delivery = λ held s e os ch p q h. delivery n (entries n) Fit (rank n) law held os (known held s) (λ c. rw e (bare c)) ch p q h;
+    placed-there = λ held s e os a c en. there a c (last (moving n (entries n)) held os) (entered-at n (entries n) Fit (rank n) law (known held s) en);
     placed-home = λ held s e os done a w en. each-home n (entries n) Fit (rank n) law (known held s) en (λ ch. rw done (bare ch));
   }

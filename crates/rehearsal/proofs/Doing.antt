@@ -59,7 +59,7 @@ module _ (n : Net) (w : WellFormed n) (words : List ℕ) where
   at-home s i a p (Holds.onward {c = c} r at x d v l sh) off = absurd (cable-or-out n w s p c l (delivers-exactly n s p .0 off))
 
   does : {o : Order} {x : Answer} {m : List Cell} → Effect n (entries n) held o x m → Does n words o x (wordsOf m)
-  does (stays k) = rw (words-back words) (Does.stays k)
+  does (stays h) = rw (words-back words) (Does.stays h)
   does (placed {k = k} {a = a} {p = p} sw g h l f) =
       let s = holder n k in
       rw (put (leaving n s p) (packet (sent a)))
@@ -83,7 +83,7 @@ does-so d words o t =
 
 -- a refusal changes nothing
 pub refused-stays : {n : Net} {words l : List ℕ} {o : Order} {x : Answer} → Does n words o x l → T (not (isAccepted x)) → l ≡ words
-refused-stays (Does.stays k) t = refl
+refused-stays (Does.stays h) t = refl
 refused-stays (Does.placed m g h l e) t = absurd t
 refused-stays (Does.goes c ne h l e) t = absurd t
 refused-stays (Does.leaves c x) t = absurd t

@@ -1,9 +1,9 @@
 -- Any machine whose accepted orders lower its work: they are no more than the work. Where each lowers it by one, they are as many as it lowers.
 use Prim.Native.Nat.{ℕ, suc, zero, _+_, _≤_, _<_}
 use native.Mathlib.Omega.{arith}
-use mathlib.Core.List.{List, [], _∷_}
+use mathlib.Core.List.{List, [], _∷_, _++_}
 use mathlib.Core.Bool.{Bool, true, false, cond}
-use mathlib.Core.Path.{_≡_}
+use mathlib.Core.Path.{_≡_, refl}
 use mathlib.Core.Logic.{_⊎_, inl, inr}
 use lib.Dec.{T}
 use Rattle.rehearsal.specs.Machine.{Machine, last, answers, tally, every}
@@ -17,6 +17,12 @@ tally-cons true k = omega arith
 tally-cons false k = omega arith
 
 module _ {S O A : Type 0} (m : Machine S O A) where
+  -- orders and then more orders
+  pub last-append : (s : S) (os qs : List O) → last m s (os ++ qs) ≡ last m (last m s os) qs
+  unfolding last
+  last-append s [] qs = refl
+  last-append s (o ∷ os) qs = last-append (m .next s o) os qs
+
   -- what every order keeps, a run keeps
   pub keeps : (Inv : S → Type 0) → ((s : S) (o : O) → Inv s → Inv (m .next s o)) → (s : S) (os : List O) → Inv s → Inv (last m s os)
   unfolding last

@@ -34,7 +34,7 @@ module _ (n : Net) (holds : Tables) where
     -- one order: what is held and what it places is what it delivers and what is held then
     balance : (held : List Cell) {o : Order} {x : Answer} {l : List Cell} → Effect n holds held o x l → Facts n Fit held
         → packets held + one (enters o x) ≡ one (leavesNet x) + packets l
-    balance held (stays {o = o} r) s = go o
+    balance held (stays {o = o} {r = r} h) s = go o
       where
         go : (o : Order) → packets held + one (enters o (Answer.refused r)) ≡ 0 + packets held
         go (placing k a p) = omega arith

@@ -36,11 +36,11 @@ needs-is false r x t = absurd t
 
 module _ (n : Net) (holds : Tables) (held : List Cell) where
   placed-so : {k a p : ℕ} {x : Answer} {m : List Cell} → Effect n holds held (placing k a p) x m → T (isAccepted x) → MayPlace n holds held k a p
-  placed-so (stays r) t = absurd t
+  placed-so (stays h) t = absurd t
   placed-so (placed s g h c f) t = record { switch = s; address = g; held-port = h; cable = c; next-empty = f }
 
   advanced-so : {ch p : ℕ} {x : Answer} {m : List Cell} → Effect n holds held (advancing ch p) x m → T (isAccepted x) → MayAdvance n holds held ch p
-  advanced-so (stays r) t = absurd t
+  advanced-so (stays h) t = absurd t
   advanced-so (goes c e h on f) t = record { channel = c; head = rw e tt; held-port = rw e h; room = inr (on, f) }
   advanced-so (leaves c e h off) t = record { channel = c; head = rw e tt; held-port = rw e h; room = inl off }
 

@@ -34,7 +34,7 @@ module _ (n : Net) (holds : Tables) (Fit : ℕ → ℕ → Type 0) (rank : ℕ �
     pub one-hop : (held : List Cell) {o : Order} {x : Answer} {m : List Cell} → Effect n holds held o x m → Facts n Fit held → (w : Whereabouts)
         → At n a held w → At n a m (hop n w x o)
     one-hop held f s (deliveredAt t p) at = at
-    one-hop held (stays r) s (inChannel c) at = at
+    one-hop held (stays h) s (inChannel c) at = at
     one-hop held (placed sw g h k f) s (inChannel c) at = (at .0, getD-set-other held _ c _ none (λ e. apart n holds Fit rank law s _ f (at .1) (sym e)) ∙ at .1, at .2)
     one-hop held (goes {ch = ch} {p = p} {pk = pk} k e al on f) s (inChannel c) at =
         by-channel (At n a (set (set held ch none) (onward n ch p) (packet pk))) c ch _ _

@@ -37,7 +37,7 @@ module _ (n : Net) (holds : Tables) (held : List Cell) (fits : n .channels ≤ l
   emptied ch c l full e = empty-not (getD (set held ch none) c none) (rw e (getD-set-same held ch none none (le-trans l fits))) full
 
   back : (c : ℕ) {o : Order} {x : Answer} {m : List Cell} → Effect n holds held o x m → Full (getD m c none) → Back c o x
-  back c (stays r) full = was c full refl
+  back c (stays h) full = was c full refl
   back c (placed {k = k} {a = a} {p = p} sw g h l f) full = same? (ℕ-discrete c (leaving n (holder n k) p))
     where
       same? : Dec (c ≡ leaving n (holder n k) p) → Back c (placing k a p) (moved (leaving n (holder n k) p))
@@ -62,12 +62,12 @@ module _ (n : Net) (holds : Tables) (Fit : ℕ → ℕ → Type 0) (rank : ℕ �
   -- an accepted placing puts the packet into the channel that it answers
   put : (held : List Cell) → n .channels ≤ length held → {k a p : ℕ} {x : Answer} {m : List Cell} (c : ℕ) → Effect n holds held (placing k a p) x m → x ≡ moved c
       → getD m c none ≡ packet (sent a)
-  put held fits c (stays r) e = let z : _≡_ {A = ℕ} 0 1 = cc in absurd (omega arith)
+  put held fits c (stays h) e = let z : _≡_ {A = ℕ} 0 1 = cc in absurd (omega arith)
   put held fits c (placed {k = k} {a = a} {p = p} sw g h l f) e =
       let same : leaving n (holder n k) p ≡ c = cc in
       rw (← same) (getD-set-same held _ (packet (sent a)) none (le-trans l fits))
 
-  entered-at : {held : List Cell} {os : List Order} {a : ℕ} {w : Whereabouts} → Facts n Fit held → Entered n machine held os a w → At n a (last machine held os) w
+  pub entered-at : {held : List Cell} {os : List Order} {a : ℕ} {w : Whereabouts} → Facts n Fit held → Entered n machine held os a w → At n a (last machine held os) w
   unfolding last
   entered-at {held} s (now {os = os} {k = k} {a = a} {p = p} {c = c} e) =
       keeps-address n holds Fit rank law a _ os (sound-next n holds Fit rank law held (placing k a p) s) (inChannel c)
@@ -126,7 +126,7 @@ module _ (n : Net) (holds : Tables) (Fit : ℕ → ℕ → Type 0) (rank : ℕ �
 
       go : {x : Answer} {m : List Cell} → Effect n holds (last machine held os) (advancing ch p) x m → x ≡ delivered q
           → (a : ℕ) × Entered n machine held os a (inChannel ch) × (target n ch ≡ destination n a) × (q ≡ a % 16)
-      go (stays r) e = let z : _≡_ {A = ℕ} 0 1 = cc in absurd (omega arith)
+      go (stays h) e = let z : _≡_ {A = ℕ} 0 1 = cc in absurd (omega arith)
       go (goes l h al on f) e = let z : _≡_ {A = ℕ} 0 1 = cc in absurd (omega arith)
       go (leaves {pk = pk} l h al off) e =
           let there = law .home ch (pk .address) p (fine-at n Fit end h .fit, al, off) in

@@ -28,9 +28,9 @@ unfolding rehearsal moving
 machine-returned n w words Sound sound (placing k a p) = place-returned n w words Sound sound k a p
 machine-returned n w words Sound sound (advancing ch p) = advance-returned n w words Sound sound ch p
 
--- Where the record is not sound, 17 comes before all else.
-module _ (Sound : Type 0) (n : Net) (words : List ℕ) (u : Sound → ⊥) where
-  late : (o : Order) (k i : ℕ) → OrderWrong Sound n words o k i → (17 ≤ k) × (i ≡ 0)
+module _ (Sound : Type 0) (n : Net) (words : List ℕ) where
+  -- an order's refusals are 17 and above, at position 0
+  pub late : (o : Order) (k i : ℕ) → OrderWrong Sound n words o k i → (17 ≤ k) × (i ≡ 0)
   late (placing k a p) m i (PlaceWrong.unsound x) = (lit≤ tt, refl)
   late (placing k a p) m i (PlaceWrong.no-switch x) = (lit≤ tt, refl)
   late (placing k a p) m i (PlaceWrong.bad-address x) = (lit≤ tt, refl)
@@ -43,12 +43,13 @@ module _ (Sound : Type 0) (n : Net) (words : List ℕ) (u : Sound → ⊥) where
   late (advancing ch p) m i (AdvanceWrong.not-allowed x) = (lit≤ tt, refl)
   late (advancing ch p) m i (AdvanceWrong.next-taken c x y) = (lit≤ tt, refl)
 
-  applies : (o : Order) → OrderWrong Sound n words o 17 0
-  applies (placing k a p) = PlaceWrong.unsound u
-  applies (advancing ch p) = AdvanceWrong.unsound u
+  pub unsound-applies : (Sound → ⊥) → (o : Order) → OrderWrong Sound n words o 17 0
+  unsound-applies u (placing k a p) = PlaceWrong.unsound u
+  unsound-applies u (advancing ch p) = AdvanceWrong.unsound u
 
-  pub unsound-returned : (o : Order) → Returned (OrderWrong Sound n words o) (refuse 17 0)
-  unsound-returned o = Returned.first (applies o) (λ m j x e. before m j (late o m j x) e)
+  -- where the record is not sound, 17 comes before all else
+  pub unsound-returned : (Sound → ⊥) → (o : Order) → Returned (OrderWrong Sound n words o) (refuse 17 0)
+  unsound-returned u o = Returned.first (unsound-applies u o) (λ m j x e. before m j (late o m j x) e)
     where
       before : (m j : ℕ) → (17 ≤ m) × (j ≡ 0) → Earlier m j 17 0 → ⊥
       before m j (l, z) (inl h) = omega (arith, stage-mono 17 m l)

@@ -83,6 +83,7 @@ module _ {S U : Type 0} (m : Machine S Order Answer) (k : Machine U Order Answer
           delivery = λ s h e os ch p q x.
               let (a, en, to, port) = d .delivery (f s) (over s h) e os ch p q (rw (sim .same-answer (last m s os) _ (sound-run s os h), same-last s os h) at x) in
               (a, entered-here en s h refl, to, port);
+          placed-there = λ s h e os a c en. rw (same-last s os h) (d .placed-there (f s) (over s h) e os a c (entered-there h en));
           placed-home = λ s h e os x a w en. d .placed-home (f s) (over s h) e os (rw (same-last s os h) at x) a w (entered-there h en);
         }
 

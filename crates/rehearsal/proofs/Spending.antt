@@ -36,7 +36,7 @@ module _ (cost : ℕ → Cell → ℕ) (free : (ch : ℕ) → cost ch none ≡ 0
 
 module _ (n : Net) (holds : Tables) (Fit : ℕ → ℕ → Type 0) (rank : ℕ → ℕ) (law : Draining n holds Fit rank) where
   same-length : (held : List Cell) {o : Order} {x : Answer} {l : List Cell} → Effect n holds held o x l → length l ≡ length held
-  same-length held (stays r) = refl
+  same-length held (stays h) = refl
   same-length held (placed sw g h l f) = simp length-set
   same-length held (goes l e al on f) = simp length-set
   same-length held (leaves l e al off) = simp length-set
@@ -62,7 +62,7 @@ module _ (n : Net) (holds : Tables) (Fit : ℕ → ℕ → Type 0) (rank : ℕ �
 
     pays-most : Descends n holds Fit figure → (held : List Cell) {o : Order} {x : Answer} {l : List Cell} → Effect n holds held o x l → Facts n Fit held → T (advances o)
         → one (isAccepted x) + work figure l ≤ work figure held
-    pays-most down held (stays r) s adv = omega arith
+    pays-most down held (stays h) s adv = omega arith
     pays-most down held (placed sw g h l f) s adv = absurd adv
     pays-most down held (goes {ch = ch} {p = p} {pk = pk} l e al on f) s adv =
         let here = fine-at n Fit s e in
@@ -78,7 +78,7 @@ module _ (n : Net) (holds : Tables) (Fit : ℕ → ℕ → Type 0) (rank : ℕ �
 
     pays : Counts n holds Fit figure → (held : List Cell) {o : Order} {x : Answer} {l : List Cell} → Effect n holds held o x l → Facts n Fit held → T (advances o)
         → one (isAccepted x) + work figure l ≡ work figure held
-    pays cs held (stays r) s adv = omega arith
+    pays cs held (stays h) s adv = omega arith
     pays cs held (placed sw g h l f) s adv = absurd adv
     pays cs held (goes {ch = ch} {p = p} {pk = pk} l e al on f) s adv =
         let here = fine-at n Fit s e in
@@ -107,7 +107,7 @@ module _ (n : Net) (holds : Tables) (Fit : ℕ → ℕ → Type 0) (rank : ℕ �
   -- deliveries against the packets in the net
   one-out : (held : List Cell) {o : Order} {x : Answer} {l : List Cell} → Effect n holds held o x l → Facts n Fit held → T (advances o)
       → one (leavesNet x) + packets l ≡ packets held
-  one-out held (stays r) s adv = omega arith
+  one-out held (stays h) s adv = omega arith
   one-out held (placed sw g h l f) s adv = absurd adv
   one-out held (goes {ch = ch} {p = p} {pk = pk} l e al on f) s adv =
       let here = fine-at n Fit s e in

@@ -3,8 +3,8 @@ use Prim.Native.Nat.{ℕ, _-_, _≤_, _<_}
 use native.Mathlib.Omega.{arith}
 use mathlib.Core.List.{List}
 use mathlib.Core.Path.{_≡_, refl, _∙_}
-use lib.ListN.{length, length-append, length-replicate, replicate}
-use lib.Seq.{take-append-seam}
+use lib.ListN.{length, length-append, length-replicate, replicate, drop}
+use lib.Seq.{take-append-seam, drop-append-seam}
 use lib.Dec.{T, eqb, leb, le→leb}
 use Rattle.topology.specs.Check.{accepted, verdict}
 use Rattle.topology.specs.Net.{netOf}
@@ -56,6 +56,11 @@ module _ (d : List ℕ) where
     pub begun-room : length (begun d .bytes) ≡ 2057
     unfolding begun
     begun-room = length-append d (replicate (2057 - length d) 0) ∙ omega (arith, short, length-replicate {A = ℕ} (2057 - length d) 0)
+
+    -- zeros behind the description
+    pub begun-tail : drop (length d) (begun d .bytes) ≡ replicate (2057 - length d) 0
+    unfolding begun
+    begun-tail = drop-append-seam d (replicate (2057 - length d) 0)
 
     pub begun-empty : cellsOf (begun d .words) ≡ nothing
     unfolding begun

@@ -2,7 +2,7 @@
 use Prim.Native.Nat.{ℕ, suc, zero, _≤_}
 use native.Mathlib.Omega.{arith}
 use mathlib.Core.List.{List, [], _∷_, map}
-use mathlib.Core.Path.{_≡_, refl, ap₂}
+use mathlib.Core.Path.{_≡_, refl, sym, ap, ap₂, _∙_}
 use mathlib.Core.Logic.{_≢_}
 use lib.ListN.{getD, set, replicate}
 use lib.Dec.{T}
@@ -53,6 +53,10 @@ address-word = word-back
 pub no-words : cellsOf (replicate 768 0) ≡ nothing
 unfolding nothing
 no-words = map-replicate cellOf 768 0
+
+-- and the other way round: words that hold nothing are zeros
+pub bare-words : (words : List ℕ) → cellsOf words ≡ nothing → words ≡ replicate 768 0
+bare-words words e = sym (words-back words) ∙ ap wordsOf (e ∙ sym no-words) ∙ words-back (replicate 768 0)
 
 module _ (n : Net) where
   -- a sound packet has an address above 0, so its word gives it back

@@ -8,19 +8,19 @@ use lib.Dec.{T}
 use Rattle.topology.specs.Net.{Net, target}
 use Rattle.planner.specs.Table.{destination}
 use Rattle.rehearsal.specs.Machine.{Machine, last, answers, tally, every}
-use Rattle.rehearsal.specs.Packets.{Cell, none, Full, addressOf, nothing}
+use Rattle.rehearsal.specs.Packets.{Cell, none, packet, sent, Full, addressOf, nothing}
 use Rattle.rehearsal.specs.Answers.{Order, advancing, advances, Answer, delivered, isAccepted, leavesNet}
 use Rattle.rehearsal.specs.Left.{hopsLeft, work, packets, placings, Still}
 use Rattle.rehearsal.specs.Follow.{Whereabouts, inChannel, deliveredAt, Apart, followed, Entered}
+
+-- where a packet of address a belongs
+abbrev pub home : Net → ℕ → Whereabouts
+home n a = deliveredAt (destination n a) (a % 16)
 
 module _ (n : Net) {S : Type 0} (m : Machine S Order Answer) (cells : S → List Cell) (Sound : S → Type 0) where
   -- where the packet in c is after the orders
   abbrev pub goesTo : S → List Order → ℕ → Whereabouts
   goesTo s os c = followed n (inChannel c) os (answers m s os)
-
-  -- where a packet of address a belongs
-  abbrev pub home : ℕ → Whereabouts
-  home a = deliveredAt (destination n a) (a % 16)
 
   -- What advances have done once no advance is accepted any more.
   pub record Drained (s : S) (os : List Order) : Type 0 where
@@ -28,7 +28,7 @@ module _ (n : Net) {S : Type 0} (m : Machine S Order Answer) (cells : S → List
     pub exactly : tally isAccepted (answers m s os) ≡ work (hopsLeft n) (cells s)
     pub once-each : tally leavesNet (answers m s os) ≡ packets (cells s)
     pub empty : cells (last m s os) ≡ nothing
-    pub each-home : (ch : ℕ) → Full (getD (cells s) ch none) → goesTo s os ch ≡ home (addressOf (getD (cells s) ch none))
+    pub each-home : (ch : ℕ) → Full (getD (cells s) ch none) → goesTo s os ch ≡ home n (addressOf (getD (cells s) ch none))
 
   -- Of any sound state, however it came about, and any orders, refused ones included.
   pub record Drains : Type 0 where
@@ -51,6 +51,9 @@ module _ (n : Net) {S : Type 0} (m : Machine S Order Answer) (cells : S → List
     -- from an empty net on, each delivery is of a packet that was placed, at the switch and port of the address it was placed with
     pub delivery : (s : S) → Sound s → cells s ≡ nothing → (os : List Order) (ch p q : ℕ) → m .answer (last m s os) (advancing ch p) ≡ delivered q
         → (a : ℕ) × Entered n m s os a (inChannel ch) × (target n ch ≡ destination n a) × (q ≡ a % 16)
+    -- a packet that was placed and is not delivered is in the channel where it is said to be, with that address
+    pub placed-there : (s : S) → Sound s → cells s ≡ nothing → (os : List Order) (a c : ℕ) → Entered n m s os a (inChannel c)
+        → getD (cells (last m s os)) c none ≡ packet (sent a)
     -- and once the net is empty again each packet that was placed is there
     pub placed-home : (s : S) → Sound s → cells s ≡ nothing → (os : List Order) → cells (last m s os) ≡ nothing
-        → (a : ℕ) (w : Whereabouts) → Entered n m s os a w → w ≡ home a
+        → (a : ℕ) (w : Whereabouts) → Entered n m s os a w → w ≡ home n a

@@ -1,4 +1,4 @@
--- Where one packet's head is, as whoever sees the orders and their answers can tell.
+-- Where one packet is, as whoever sees the orders and their answers can tell.
 use Prim.Native.Nat.{ℕ}
 use mathlib.Core.List.{List, [], _∷_}
 use mathlib.Core.Bool.{cond}
@@ -18,15 +18,17 @@ abbrev pub Apart : Whereabouts → Whereabouts → Type 0
 Apart w v = (e : ℕ) → w ≡ inChannel e → v ≡ inChannel e → ⊥
 
 module _ (n : Net) where
-  -- where a packet's head is after an order so answered
+  -- where a packet is after an order so answered
   abbrev pub hop : Whereabouts → Answer → Order → Whereabouts
   hop (deliveredAt s p) x o = deliveredAt s p
   hop (inChannel c) (refused k) o = inChannel c
   hop (inChannel c) (moved d) (placing k a p) = inChannel c
   hop (inChannel c) (moved d) (advancing ch p) = cond (eqb c ch) (inChannel d) (inChannel c)
+  -- a placing is never delivered
   hop (inChannel c) (delivered q) (placing k a p) = inChannel c
   hop (inChannel c) (delivered q) (advancing ch p) = cond (eqb c ch) (deliveredAt (target n ch) q) (inChannel c)
 
+  -- after orders so answered; there are as many answers as orders
   unfoldable pub followed : Whereabouts → List Order → List Answer → Whereabouts
   followed w [] xs = w
   followed w (o ∷ os) [] = w

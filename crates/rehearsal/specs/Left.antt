@@ -39,7 +39,7 @@ each ch (packet pk) = 1
 abbrev pub packets : List Cell → ℕ
 packets held = sum each held
 
--- how many of these orders, so answered, brought a packet into the net
+-- how many of these orders, so answered, brought a packet into the net; there are as many answers as orders
 unfoldable pub placings : List Order → List Answer → ℕ
 placings [] xs = 0
 placings (o ∷ os) [] = 0

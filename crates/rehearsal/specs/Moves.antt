@@ -29,6 +29,7 @@ abbrev pub settle : List Cell → Answer → Order → List Cell
 settle held (refused k) o = held
 settle held (moved c) (placing k a p) = set held c (packet (sent a))
 settle held (moved c) (advancing ch p) = set (set held ch none) c (getD held ch none)
+-- a placing is never delivered
 settle held (delivered q) (placing k a p) = held
 settle held (delivered q) (advancing ch p) = set held ch none
 

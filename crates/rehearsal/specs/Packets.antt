@@ -17,7 +17,7 @@ pub data Cell : Type 0 where
   none : Cell
   packet : Packet → Cell
 
--- a channel holds the head of a packet
+-- a channel holds a packet
 abbrev pub Full : Cell → Type 0
 Full none = ⊥
 Full (packet pk) = Unit {0}
@@ -26,7 +26,7 @@ abbrev pub full? : Cell → Bool
 full? none = false
 full? (packet pk) = true
 
--- 0 where there is no head
+-- 0 where there is none
 abbrev pub addressOf : Cell → ℕ
 addressOf none = 0
 addressOf (packet pk) = pk .address

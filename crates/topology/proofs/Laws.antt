@@ -1,4 +1,4 @@
--- The laws of descriptions on one page.
+-- The laws of descriptions on one page. Packing.antt has those of answers as one number, Cases.antt the examples.
 use mathlib.Core.Path.{_≡_, refl, ap, _∙_}
 use mathlib.Core.Logic.{_⊎_, inl, inr, _↔_, _≢_}
 use mathlib.Core.Bool.{not}
@@ -61,6 +61,7 @@ pub record RefusalLaws (d : List ℕ) : Type 0 where
   pub check : Returned (Wrong d) (verdict d)
   pub check-numbers : {k i : ℕ} → Wrong d k i → (0 < k) × (k ≤ 12)
   pub check-accepts : verdict d .number ≡ 0 → verdict d ≡ accepted
+  pub check-short : verdict d .number ≡ 0 → length d ≤ 2057
   pub check-small : (verdict d .number ≤ 12) × (verdict d .position < 384)
   -- to keep 2,058 bytes of a longer input is enough
   pub check-prefix : verdict (take 2058 d) ≡ verdict d
@@ -78,6 +79,7 @@ refusal-laws d = record {
   check = verdict-returned d;
   check-numbers = wrong-number d;
   check-accepts = λ e. verdict-zero d e .0;
+  check-short = λ e. let a = verdict-rule d .0 e in omega (arith, a .size, a .few-switches, a .few-cables);
   check-small = verdict-small d;
   check-prefix = prefix-enough d;
   retire-returns = retire-returned d;

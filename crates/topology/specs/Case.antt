@@ -2,11 +2,12 @@
 use Prim.Native.Nat.{ℕ}
 use mathlib.Core.List.{List, [], _∷_}
 use mathlib.Core.Bool.{Bool, true, false}
+use mathlib.Core.Path.{_≡_}
 use lib.Dec.{eqb}
 use Rattle.topology.specs.Count.{both}
 use Rattle.topology.specs.Check.{Verdict}
 
--- an example's number in its list
+-- an example: its number, what the rules give, and what they should give
 pub record Case : Type 0 where
   pub example : ℕ
   pub found : List ℕ
@@ -28,3 +29,8 @@ allRight (c ∷ cs) = both (same (c .found) (c .said)) (allRight cs)
 -- number and position
 abbrev pub shown : Verdict → List ℕ
 shown v = v .number ∷ v .position ∷ []
+
+-- the same as a statement: each example gives what it should
+abbrev pub AllSaid : List Case → Type 0
+AllSaid [] = Unit {0}
+AllSaid (c ∷ cs) = (c .found ≡ c .said) × AllSaid cs

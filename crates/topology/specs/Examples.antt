@@ -1,21 +1,25 @@
 -- Descriptions checked, found, retired and pulled: examples that the checker computes.
-use Prim.Native.Nat.{ℕ}
+use Prim.Native.Nat.{ℕ, suc}
 use mathlib.Core.List.{List, [], _∷_, _++_}
 use mathlib.Core.Bool.{true}
 use mathlib.Core.Path.{_≡_, refl}
 use lib.ListN.{take, drop, set}
 use Rattle.topology.specs.Count.{any, least, those, count}
 use Rattle.topology.specs.Format.{uidAt}
-use Rattle.topology.specs.Check.{verdict, switchesFrom, cablesFrom}
+use Rattle.topology.specs.Check.{refuse, verdict, switchesFrom, cablesFrom}
 use Rattle.topology.specs.Net.{numberAt}
-use Rattle.topology.specs.Answers.{Outcome, packed}
-use Rattle.topology.specs.Edit.{find, cableOf, retireVerdict, pullVerdict, retired, pulled, part, records, retire, pull}
+use Rattle.topology.specs.Answers.{Outcome, refused, packed}
+use Rattle.topology.specs.Edit.{header, find, cableOf, retireVerdict, pullVerdict, retired, pulled, part, records, retire, pull}
 use Rattle.topology.specs.Case.{Case, case, allRight, shown}
 use Rattle.topology.specs.Samples.{r5, r4, one, pair, triangle, twins}
 
 -- byte k of description d set to v, then checked
 abbrev damaged : List ℕ → ℕ → ℕ → List ℕ
 damaged d k v = shown (verdict (set d k v))
+
+-- k switches with no cable, UIDs 1 to k
+abbrev lone : ℕ → List ℕ
+lone k = header k 0 ++ records (λ i. 0 ∷ 0 ∷ 0 ∷ 0 ∷ 0 ∷ suc i ∷ 0 ∷ 0 ∷ []) (those k 0 (λ i. true))
 
 -- each refusal once, first those of the header
 unfoldable pub checks : List Case
@@ -37,10 +41,14 @@ checks =
     ∷ case 11 (damaged r5 55 1) (11 ∷ 1 ∷ [])
     -- a host port; a port that an earlier cable's first or second end uses
     ∷ case 12 (damaged r5 50 5 ++ damaged pair 30 1 ++ damaged pair 32 1) (12 ∷ 0 ∷ 12 ∷ 1 ∷ 12 ∷ 1 ∷ [])
+    -- an earlier cable's 12 before a later one's 9; a switch record's 8 before a cable record's 9
+    ∷ case 13 (damaged (set r5 50 5) 55 5 ++ damaged (set r5 48 33) 51 5) (12 ∷ 0 ∷ 8 ∷ 4 ∷ [])
+    -- 64 switches and 65
+    ∷ case 14 (shown (verdict (lone 64)) ++ shown (verdict (lone 65))) (0 ∷ 0 ∷ 4 ∷ 0 ∷ [])
     ∷ []
 
 pub checks-right : allRight checks ≡ true
-unfolding checks r5 one pair triangle twins verdict switchesFrom cablesFrom any
+unfolding checks r5 one pair triangle twins verdict switchesFrom cablesFrom any those records
 checks-right = refl
 
 -- an answer as it is packed, and the output
@@ -62,6 +70,8 @@ edits =
     -- pulling A.1–B.1, named from either end
     ∷ case 7 (drop 49 (pulled r5 (cableOf r5 (find r5 20) 1))) (drop 53 r5)
     ∷ case 8 (take 9 (pulled r5 (cableOf r5 (find r5 10) 1)) ++ drop 49 (pulled r5 0)) (85 ∷ 68 ∷ 82 ∷ 0 ∷ 1 ∷ 0 ∷ 5 ∷ 0 ∷ 4 ∷ drop 53 r5)
+    -- a refusal's position is packed too
+    ∷ case 11 (packed (refused (refuse 12 3)) ∷ []) (51539607555 ∷ [])
     -- 13, then 15 at a host port, at port 0 and above 12, then 16
     ∷ case 9 (shown (pullVerdict r5 21 5 0) ++ shown (pullVerdict r5 20 5 0) ++ shown (pullVerdict r5 20 0 0) ++ shown (pullVerdict r5 20 13 0)) (13 ∷ 0 ∷ 15 ∷ 0 ∷ 15 ∷ 0 ∷ 15 ∷ 0 ∷ [])
     ∷ case 10 (shown (pullVerdict r5 20 1 64) ++ shown (pullVerdict r5 20 1 65) ++ told (pull r5 20 1 (7 ∷ []))) (16 ∷ 0 ∷ 0 ∷ 0 ∷ 68719476736 ∷ 7 ∷ [])
