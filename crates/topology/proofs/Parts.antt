@@ -13,7 +13,7 @@ use Rattle.topology.specs.Edit.{header, switchRecord, cableRecord, recor
 use Rattle.topology.proofs.Tests.{split}
 use Rattle.topology.proofs.Records.{Found, records-length, records-at}
 
-switch-byte : (d : List ℕ) (i b : ℕ) → b < 8 → getD (switchRecord d i) b 0 ≡ getD d (9 + 8 * i + b) 0
+pub switch-byte : (d : List ℕ) (i b : ℕ) → b < 8 → getD (switchRecord d i) b 0 ≡ getD d (9 + 8 * i + b) 0
 switch-byte d i zero h = rw add-zero refl
 switch-byte d i (suc zero) h = refl
 switch-byte d i (suc (suc zero)) h = refl

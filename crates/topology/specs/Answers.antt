@@ -11,6 +11,10 @@ pub data Reply : Type 0 where
   done : ℕ → Reply
   refused : Verdict → Reply
 
+-- the answer of a job with this verdict that returns value
+abbrev pub answered : Verdict → ℕ → Reply
+answered v value = cond (eqb (v .number) 0) (done value) (refused v)
+
 -- a call's answer, and what the lent output holds afterwards
 pub record Outcome : Type 0 where
   pub reply : Reply

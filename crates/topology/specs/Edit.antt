@@ -7,7 +7,7 @@ use lib.Dec.{eqb, ltb, leb}
 use Rattle.topology.specs.Count.{either, least, those}
 use Rattle.topology.specs.Format.{mark, switchCount, cableCount, uidAt, endSwitch, endPort, endsAt}
 use Rattle.topology.specs.Check.{Verdict, refuse, accepted, whenever, verdict}
-use Rattle.topology.specs.Answers.{Outcome, outcome}
+use Rattle.topology.specs.Answers.{Reply, answered, Outcome, outcome}
 
 -- the record with that UID, all 48 bits compared; past the last where none has it
 unfoldable pub find : List ℕ → ℕ → ℕ
@@ -70,6 +70,14 @@ pulled d c = part d (those (switchCount d) 0 (λ j. true)) (otherCables d c) (λ
 -- the refusal of a job that checks the description first
 abbrev pub checked : List ℕ → Verdict → Verdict
 checked d rest = whenever (not (eqb (verdict d .number) 0)) (verdict d) rest
+
+-- 1 to 12, then 13
+unfoldable pub findVerdict : List ℕ → ℕ → Verdict
+findVerdict d u = let unknown = whenever (leb (switchCount d) (find d u)) (refuse 13 0) accepted in checked d unknown
+
+-- where the record with that UID stands
+unfoldable pub findReply : List ℕ → ℕ → Reply
+findReply d u = answered (findVerdict d u) (find d u)
 
 -- 1 to 12, then 13, 14, 16, where room bytes are lent
 unfoldable pub retireVerdict : List ℕ → ℕ → ℕ → Verdict
