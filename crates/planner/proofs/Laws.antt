@@ -1,8 +1,8 @@
--- Demand 2 on one page: tree, directions, legal routes, entries and tables are as the rules say, of every well-formed net. The printed plan stands last.
+-- Demand 2 on one page: tree, directions, legal routes, entries and tables are as the rules say, of every well-formed net. The printed plan has its own page, PrintLaws.antt.
 use mathlib.Core.Path.{_≡_}
 use mathlib.Core.Logic.{_⊎_, _↔_, _≢_}
 use mathlib.Core.Bool.{not}
-use mathlib.Core.List.{List, [], _∷_, List·Memᴰ}
+use mathlib.Core.List.{List, _∷_, List·Memᴰ}
 use Prim.Native.Nat.{ℕ, suc, _+_, _*_, _%_, _≤_, _<_, _^_}
 use lib.ListN.{getD, length}
 use lib.Dec.{T}
@@ -18,7 +18,6 @@ use Rattle.planner.specs.Tree.{within, joined, root, level, above, up, u
 use Rattle.planner.specs.Routes.{Arrival, free, bound, after, way, far, legalLength}
 use Rattle.planner.specs.Table.{holder, destination, good, attached, arrival, begins, entry, tableOf, tableVerdict, table, TableWrong}
 use Rattle.planner.specs.Rules.{Once, Walk, Parent, Downs, UpThenDown, Legal, Shortest, Leaves, Delivers, Attached, Arrives, Addresses, Good, Holds}
-use Rattle.planner.specs.Printed.{decimal, hex, line, printed, program}
 use Rattle.planner.proofs.Walks.{within-walk, walk-within, joined-exactly, short-walk, joined-refl, joined-sym, joined-trans}
 use Rattle.planner.proofs.Levels.{root-switch, root-joined, root-lowest, root-same, level-shortest, within-level, level-bound, level-zero, at-root, below-root, channel-root, level-rise, level-fall}
 use Rattle.planner.proofs.Order.{above-T, T-above, up-above, above-irreflexive, above-transitive, above-asymmetric, above-total, up-back}
@@ -36,10 +35,6 @@ use Rattle.planner.proofs.Entries.{arrives, entry-lt, determined}
 use Rattle.planner.proofs.Holding.{holds-exactly, holds-none, unattached-discards, bad-discards, no-way-discards, apart-discards, way-serves, bound-down, home-exactly, own-address, arrival-decides}
 use Rattle.planner.proofs.Tables.{table-length, table-place, table-narrow}
 use Rattle.planner.proofs.TableJob.{table-returned, table-allowed, table-outcome}
-use Rattle.planner.proofs.Digits.{Each, decimalValue, hexValue, Digit, HexDigit, Plain, decimal-read, decimal-each, decimal-first, decimal-zero, decimal-plain, hex-length, hex-read, hex-each, hex-plain}
-use Rattle.planner.proofs.Printing.{Line, Lines, line-whole, printed-lines}
-use Rattle.planner.proofs.Sizes.{printed-length}
-use Rattle.planner.proofs.Keeping.{kept-enough}
 
 pub record TreeLaws (n : Net) : Type 0 where
   -- components: switches joined by walks
@@ -159,27 +154,6 @@ pub record TableJobLaws (d : List ℕ) (u : ℕ) : Type 0 where
 pub table-job-laws : (d : List ℕ) (u : ℕ) → TableJobLaws d u
 table-job-laws d u = record { returns = table-returned d u; accepts = table-allowed d u; leaves = table-outcome d u }
 
--- Printed numbers and lines; Digits.antt and Printing.antt say what the words mean.
-pub record PrintLaws : Type 0 where
-  -- decimal numbers read back, in the digits 0 to 9, with no zero before other digits
-  pub decimal-reads : (x : ℕ) → decimalValue (decimal x) ≡ x
-  pub decimal-digits : (x : ℕ) → Each Digit (decimal x)
-  pub decimal-shortest : (x : ℕ) → getD (decimal x) 0 0 ≡ 48 → x ≡ 0
-  pub decimal-of-0 : decimal 0 ≡ 48 ∷ []
-  -- k hex digits are k of 0 to 9 and a to f, and read back
-  pub hex-size : (k x : ℕ) → length (hex k x) ≡ k
-  pub hex-digits : (k x : ℕ) → Each HexDigit (hex k x)
-  pub hex-reads : (k x : ℕ) → x < 16 ^ k → hexValue (hex k x) ≡ x
-  -- no number has a space or a newline; a word and fields without them make one line, which has its one newline at its end
-  pub decimal-plain : (x : ℕ) → Each Plain (decimal x)
-  pub hex-plain : (k x : ℕ) → Each Plain (hex k x)
-  pub one-line : (word : List ℕ) (fs : List (List ℕ)) → Each Plain word → Each (Each Plain) fs → Line (line word fs)
-  -- whatever is read, what is printed is whole lines, and at most 5,452 characters
-  pub whole-lines : (d : List ℕ) → Lines (printed d)
-  pub short : (d : List ℕ) → length (printed d) ≤ 5452
-  -- of a longer input the bytes that the program keeps are enough
-  pub kept : (input : List ℕ) → program input ≡ printed input
-
 module _ (n : Net) (w : WellFormed n) where
   pub tree-laws : TreeLaws n
   tree-laws = record {
@@ -272,20 +246,3 @@ demand-2 d e = let w = accepted-well-formed d e in (tree-laws (netOf d) w, route
 
 pub demand-2-tables : (d : List ℕ) → verdict d .number ≡ 0 → PortLaws (netOf d) × TableLaws (netOf d)
 demand-2-tables d e = let w = accepted-well-formed d e in (port-laws (netOf d) w, table-laws (netOf d) w)
-
-pub print-laws : PrintLaws
-print-laws = record {
-  decimal-reads = decimal-read;
-  decimal-digits = decimal-each;
-  decimal-shortest = decimal-first;
-  decimal-of-0 = decimal-zero;
-  hex-size = hex-length;
-  hex-digits = hex-each;
-  hex-reads = hex-read;
-  decimal-plain = decimal-plain;
-  hex-plain = hex-plain;
-  one-line = line-whole;
-  whole-lines = printed-lines;
-  short = printed-length;
-  kept = kept-enough;
-}

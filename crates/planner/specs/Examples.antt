@@ -81,14 +81,24 @@ r5Text = 112 ∷ 108 ∷ 97 ∷ 110 ∷ 32 ∷ 53 ∷ 32 ∷ 53 ∷ 10
     ∷ 108 ∷ 110 ∷ 32 ∷ 51 ∷ 32 ∷ 53 ∷ 10
     ∷ 108 ∷ 110 ∷ 32 ∷ 52 ∷ 32 ∷ 49 ∷ 10 ∷ []
 
+-- what the twins print: plan 3 1, the switch of UID 2^47 + 2 last, one cable
+unfoldable pub twinsText : List ℕ
+twinsText = 112 ∷ 108 ∷ 97 ∷ 110 ∷ 32 ∷ 51 ∷ 32 ∷ 49 ∷ 10
+    ∷ 115 ∷ 119 ∷ 32 ∷ 49 ∷ 32 ∷ 48 ∷ 48 ∷ 48 ∷ 48 ∷ 48 ∷ 48 ∷ 48 ∷ 48 ∷ 48 ∷ 48 ∷ 48 ∷ 50 ∷ 32 ∷ 48 ∷ 32 ∷ 48 ∷ 10
+    ∷ 115 ∷ 119 ∷ 32 ∷ 50 ∷ 32 ∷ 48 ∷ 48 ∷ 48 ∷ 48 ∷ 48 ∷ 48 ∷ 48 ∷ 48 ∷ 48 ∷ 48 ∷ 48 ∷ 51 ∷ 32 ∷ 49 ∷ 32 ∷ 49 ∷ 10
+    ∷ 115 ∷ 119 ∷ 32 ∷ 51 ∷ 32 ∷ 56 ∷ 48 ∷ 48 ∷ 48 ∷ 48 ∷ 48 ∷ 48 ∷ 48 ∷ 48 ∷ 48 ∷ 48 ∷ 50 ∷ 32 ∷ 48 ∷ 32 ∷ 48 ∷ 10
+    ∷ 108 ∷ 110 ∷ 32 ∷ 48 ∷ 32 ∷ 49 ∷ 10 ∷ []
+
 unfoldable pub prints : List Case
 prints =
     case 1 (printed r5) r5Text
     -- refused 1 0; refused 12 1
     ∷ case 2 (printed []) (114 ∷ 101 ∷ 102 ∷ 117 ∷ 115 ∷ 101 ∷ 100 ∷ 32 ∷ 49 ∷ 32 ∷ 48 ∷ 10 ∷ [])
     ∷ case 3 (printed (set pair 32 1)) (114 ∷ 101 ∷ 102 ∷ 117 ∷ 115 ∷ 101 ∷ 100 ∷ 32 ∷ 49 ∷ 50 ∷ 32 ∷ 49 ∷ 10 ∷ [])
+    -- all 48 bits of a UID; two components
+    ∷ case 4 (printed twins) twinsText
     ∷ []
 
 pub prints-right : allRight prints ≡ true
-unfolding prints r5 r5Text pair verdict switchesFrom cablesFrom records those printed planText digits hex fields netOf leaving within root level above up parentChannel upEnd parentNumber holder any least first count
+unfolding prints r5 r5Text pair twins twinsText verdict switchesFrom cablesFrom records those printed planText digits hex fields netOf leaving within root level above up parentChannel upEnd parentNumber holder any least first count
 prints-right = refl

@@ -8,7 +8,7 @@ use lib.ListN.{getD}
 use Rattle.topology.specs.Format.{Bytes, be16, be48, switchCount, hostsAt, endSwitch, endPort}
 
 -- a byte of a list that is named by another sum
-byte : (d : List ℕ) {x y : ℕ} → x ≡ y → getD d x 0 ≡ getD d y 0
+pub byte : (d : List ℕ) {x y : ℕ} → x ≡ y → getD d x 0 ≡ getD d y 0
 byte d e = ap (λ (k : ℕ). getD d k 0) e
 
 pub six-bytes : (d : List ℕ) (a : ℕ)
@@ -32,7 +32,7 @@ module _ (d e : List ℕ) (p : Bytes d) (q : Bytes e) (a b : ℕ) where
   abbrev Same : ℕ → Type 0
   Same k = getD d (a + k) 0 ≡ getD e (b + k) 0
 
-  two-same : (k : ℕ) → be16 d (a + k) ≡ be16 e (b + k) → Same k × Same (k + 1)
+  pub two-same : (k : ℕ) → be16 d (a + k) ≡ be16 e (b + k) → Same k × Same (k + 1)
   two-same k s =
       let (x, y) = two-digits _ _ _ _ (p (a + k + 1)) (q (b + k + 1)) s in
       let f : a + (k + 1) ≡ a + k + 1 = omega arith in

@@ -30,6 +30,7 @@ use Rattle.topology.proofs.Finding.{find-rule, found-narrow, found-once
 use Rattle.topology.proofs.EditReturns.{retire-returned, retire-allowed, pull-returned, pull-allowed}
 use Rattle.topology.proofs.Bytes.{retired-bytes, pulled-bytes}
 use Rattle.topology.proofs.Outcomes.{outcome-refused, outcome-done, outcome-told, onto-new, onto-rest, onto-length}
+use Rattle.topology.proofs.KeepsOnce.{keeps-once}
 use Rattle.topology.proofs.Kept.{retired-ok, retired-keeps, retired-counts, retired-length, retired-switch, retired-cable, pulled-ok, pulled-keeps, pulled-counts, pulled-length, pulled-switch, pulled-cable}
 
 -- checking returns 0 exactly where no refusal applies
@@ -197,6 +198,10 @@ pub record PullingLaws (d : List ℕ) : Type 0 where
   pub switch : (c x : ℕ) → x < switchCount d → (uidAt (pulled d c) x ≡ uidAt d x) × (hostsAt (pulled d c) x ≡ hostsAt d x)
   pub cable : (c x b : ℕ) → x < cableCount d → x ≢ c → b < 2
       → (endSwitch (pulled d c) (2 * fall c x + b) ≡ endSwitch d (2 * x + b)) × (endPort (pulled d c) (2 * fall c x + b) ≡ endPort d (2 * x + b))
+
+-- what is kept settles every byte: two accepted descriptions that keep the same of d are one
+pub edits-once : (d a b : List ℕ) (Switch Cable : ℕ → Type 0) → Accepted a → Accepted b → Bytes a → Bytes b → Keeps d a Switch Cable → Keeps d b Switch Cable → a ≡ b
+edits-once = keeps-once
 
 pub record DescriptionLaws (d : List ℕ) : Type 0 where
   pub numbers : NumberLaws d
