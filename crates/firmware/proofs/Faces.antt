@@ -2,8 +2,8 @@
 use Prim.Native.Nat.{ℕ, _+_, _*_, _^_}
 use mathlib.Core.List.{List}
 use mathlib.Core.Path.{_≡_, sym, _∙_, ap}
-use Rattle.topology.specs.Check.{refuse, verdict}
-use Rattle.topology.specs.Answers.{Reply, refused, answered, packed}
+use Rattle.topology_rules.specs.Check.{refuse, verdict}
+use Rattle.topology_rules.specs.Answers.{Reply, refused, answered, packed}
 use Rattle.topology.specs.Reasons.{numberOf, verdictOf, editedOf}
 use Rattle.topology.specs.declared.Reason.{Reason}
 use Rattle.topology.specs.declared.Checked.{Checked}

@@ -1,9 +1,9 @@
 //! What the controller's C firmware calls. Each answer is one number: refusal number × 2^32 + position, or 0 and what is returned.
 ghost use mathlib.Core.Path.{_≡_};
 ghost use Prim.Native.Nat.{_+_, _*_, _^_};
-ghost use Rattle.topology.specs.Check.{verdict};
-ghost use Rattle.topology.specs.Answers.{answered, packed};
-ghost use Rattle.topology.specs.Edit.{retire, pull};
+ghost use Rattle.topology_rules.specs.Check.{verdict};
+ghost use Rattle.topology_rules.specs.Answers.{answered, packed};
+ghost use Rattle.topology_rules.specs.Edit.{retire, pull};
 use topology::Checked;
 use topology::Edited;
 

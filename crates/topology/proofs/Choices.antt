@@ -8,11 +8,11 @@ use native.Mathlib.Numerals.{add-one}
 use native.Mathlib.Omega.{arith}
 use lib.ListN.{length, length-append}
 use lib.Seq.{paste}
-use Rattle.topology.specs.Count.{those}
-use Rattle.topology.specs.Edit.{records}
+use Rattle.topology_rules.specs.Count.{those}
+use Rattle.topology_rules.specs.Edit.{records}
 use Rattle.topology.specs.Inside.{Written}
 use Rattle.topology.proofs.Scans.{true-T}
-use Rattle.topology.proofs.Records.{those-found, records-length}
+use Rattle.topology_rules.proofs.Records.{those-found, records-length}
 use Rattle.topology.proofs.Pieces.{written-none, written-after}
 
 module _ (f : ℕ → Bool) where

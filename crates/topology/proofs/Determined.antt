@@ -5,9 +5,9 @@ use mathlib.Core.Path.{_≡_, refl, sym, ap, ap₂, _∙_}
 use native.Mathlib.Omega.{arith}
 use lib.ListN.{getD}
 use lib.Dec.{lit<}
-use Rattle.topology.specs.Check.{verdict}
-use Rattle.topology.specs.Answers.{Reply, done, refused, Outcome}
-use Rattle.topology.specs.Edit.{findReply, retire, pull}
+use Rattle.topology_rules.specs.Check.{verdict}
+use Rattle.topology_rules.specs.Answers.{Reply, done, refused, Outcome}
+use Rattle.topology_rules.specs.Edit.{findReply, retire, pull}
 use Rattle.topology.specs.Reasons.{numberOf, verdictOf, foundOf, editedOf}
 use Rattle.topology.specs.declared.Reason.{Reason}
 use Rattle.topology.specs.declared.Reason.the-variants.{Short, Mark, Version, SwitchCount, CableCount, Length, Uid, Hosts, EndSwitch, EndPort, OneSwitch, PortTaken, NoSuchUid, OnlySwitch, NoCable, LittleRoom, Unsound, NoSuchPlace, BadAddress, ChannelEmpty, PortForbidden, ChannelTaken}

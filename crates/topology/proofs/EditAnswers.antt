@@ -8,12 +8,12 @@ use native.Mathlib.Omega.{arith}
 use lib.ListN.{length}
 use lib.Dec.{eqb, leb}
 use borrow.Author.Tests.{le-leb, lt-leb, lt-ltb, le-ltb, eq-eqb, ne-eqb}
-use Rattle.topology.specs.Count.{those}
-use Rattle.topology.specs.Format.{switchCount, cableCount}
-use Rattle.topology.specs.Check.{Verdict, refuse, accepted, whenever, verdict}
-use Rattle.topology.specs.Accepted as good
-use Rattle.topology.specs.Answers.{Reply, done, refused, Outcome, onto, outcome}
-use Rattle.topology.specs.Edit.{find, cableOf, retired, pulled, retireVerdict, pullVerdict, retire, pull, clear, checked}
+use Rattle.topology_rules.specs.Count.{those}
+use Rattle.topology_rules.specs.Format.{switchCount, cableCount}
+use Rattle.topology_rules.specs.Check.{Verdict, refuse, accepted, whenever, verdict}
+use Rattle.topology_rules.specs.Accepted as good
+use Rattle.topology_rules.specs.Answers.{Reply, done, refused, Outcome, onto, outcome}
+use Rattle.topology_rules.specs.Edit.{find, cableOf, retired, pulled, retireVerdict, pullVerdict, retire, pull, clear, checked}
 use Rattle.topology.specs.Inside.{Sized, stays, without}
 use Rattle.topology.specs.Reasons.{numberOf, verdictOf}
 use Rattle.topology.specs.declared.Reason.{Reason}
@@ -21,8 +21,8 @@ use Rattle.topology.specs.declared.Reason.the-variants.{NoSuchUid, OnlyS
 use Rattle.topology.specs.declared.Checked.{Checked}
 use Rattle.topology.specs.declared.Checked.the-variants.{Accepted, Refused}
 use Rattle.topology.proofs.Passing.{applies, passes}
-use Rattle.topology.proofs.Records.{all-length, others-length}
-use Rattle.topology.proofs.Kept.{retired-length, pulled-length}
+use Rattle.topology_rules.proofs.Records.{all-length, others-length}
+use Rattle.topology_rules.proofs.Kept.{retired-length, pulled-length}
 use Rattle.topology.proofs.Handing.{is-accepted, handed-on, went-on, outcome-handed, outcome-given}
 use Rattle.topology.proofs.Without.{clear-stay, retired-is, all-stay, others-stay, pulled-is}
 

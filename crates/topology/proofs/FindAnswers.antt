@@ -3,10 +3,10 @@ use mathlib.Core.Path.{_≡_, sym, ap, _∙_}
 use mathlib.Core.List.{List}
 use Prim.Native.Nat.{ℕ, _≤_, _<_}
 use borrow.Author.Tests.{le-leb, lt-leb}
-use Rattle.topology.specs.Format.{switchCount}
-use Rattle.topology.specs.Check.{refuse, verdict}
-use Rattle.topology.specs.Answers.{done, refused}
-use Rattle.topology.specs.Edit.{find, findVerdict, findReply}
+use Rattle.topology_rules.specs.Format.{switchCount}
+use Rattle.topology_rules.specs.Check.{refuse, verdict}
+use Rattle.topology_rules.specs.Answers.{done, refused}
+use Rattle.topology_rules.specs.Edit.{find, findVerdict, findReply}
 use Rattle.topology.specs.Reasons.{numberOf, verdictOf}
 use Rattle.topology.specs.declared.Reason.{Reason}
 use Rattle.topology.specs.declared.Reason.the-variants.{NoSuchUid}

@@ -5,20 +5,20 @@ use mathlib.Core.List.{List}
 use Prim.Native.Nat.{ℕ, _<_}
 use native.Mathlib.Omega.{arith}
 use lib.Dec.{T, eqb}
-use Rattle.topology.specs.Check.{Verdict, refuse, accepted, verdict}
-use Rattle.topology.specs.Accepted as good
-use Rattle.topology.specs.Answers.{done, refused, answered, onto, outcome}
-use Rattle.topology.specs.Edit.{checked}
+use Rattle.topology_rules.specs.Check.{Verdict, refuse, accepted, verdict}
+use Rattle.topology_rules.specs.Accepted as good
+use Rattle.topology_rules.specs.Answers.{done, refused, answered, onto, outcome}
+use Rattle.topology_rules.specs.Edit.{checked}
 use Rattle.topology.specs.Reasons.{numberOf, verdictOf}
 use Rattle.topology.specs.declared.Reason.{Reason}
 use Rattle.topology.specs.declared.Checked.{Checked}
 use Rattle.topology.specs.declared.Checked.the-variants.{Accepted, Refused}
-use Rattle.topology.proofs.Tests.{cond-not, ne→neqb}
-use Rattle.topology.proofs.Verdicts.{verdict-rule}
+use Rattle.topology_rules.proofs.Tests.{cond-not, ne→neqb}
+use Rattle.topology_rules.proofs.Verdicts.{verdict-rule}
 use Rattle.topology.proofs.Determined.{some-number}
 use Rattle.topology.proofs.Passing.{applies}
 use Rattle.topology.proofs.Scans.{T-true}
-use Rattle.topology.proofs.Outcomes.{outcome-refused, outcome-done}
+use Rattle.topology_rules.proofs.Outcomes.{outcome-refused, outcome-done}
 
 not-zero : (k : Reason) → T (not (eqb (numberOf k) 0))
 not-zero k = ne→neqb (numberOf k) 0 (λ e. omega (arith, some-number k))

@@ -6,8 +6,8 @@ use Prim.Native.Nat.{ℕ, _≤_}
 use lib.ListN.{length}
 use lib.Dec.{eqb, ltb}
 use borrow.Author.Tests.{eq-eqb, ne-eqb, ltb-false}
-use Rattle.topology.specs.Format.{switchCount, cableCount, sizeFor}
-use Rattle.topology.specs.Check.{Verdict, refuse, accepted, whenever, verdict, markDiffers, otherVersion, badCount, otherLength, switchesFrom, cablesFrom}
+use Rattle.topology_rules.specs.Format.{switchCount, cableCount, sizeFor}
+use Rattle.topology_rules.specs.Check.{Verdict, refuse, accepted, whenever, verdict, markDiffers, otherVersion, badCount, otherLength, switchesFrom, cablesFrom}
 use Rattle.topology.specs.Reasons.{onward, verdictOf}
 use Rattle.topology.specs.declared.Reason.{Reason}
 use Rattle.topology.specs.declared.Checked.{Checked}

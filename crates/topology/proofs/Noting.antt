@@ -9,11 +9,11 @@ use lib.ListN.{getD, length, set, replicate, length-set, length-replicate, getD-
 use lib.Seq.{getD-set-same, getD-set-other}
 use lib.Dec.{eqb, ltb, eqb→eq}
 use borrow.Author.Tests.{leb-false, ltb-false}
-use Rattle.topology.specs.Count.{both, either, bit, any}
-use Rattle.topology.specs.Format.{hostsAt, endSwitch, endPort, endsAt}
-use Rattle.topology.specs.Check.{Verdict, refuse, accepted, whenever, badSwitch, badSwitches, badPort, badPorts, portTaken, cableRule}
+use Rattle.topology_rules.specs.Count.{both, either, bit, any}
+use Rattle.topology_rules.specs.Format.{hostsAt, endSwitch, endPort, endsAt}
+use Rattle.topology_rules.specs.Check.{Verdict, refuse, accepted, whenever, badSwitch, badSwitches, badPort, badPorts, portTaken, cableRule}
 use Rattle.topology.specs.Inside.{Ends, used, Noted}
-use Rattle.topology.proofs.Tests.{decide, both-T, T-both, eq→eqb}
+use Rattle.topology_rules.proofs.Tests.{decide, both-T, T-both, eq→eqb}
 use Rattle.topology.proofs.Scans.{T-true, not-true-false, any-none, any-two, either-true, either-false, either-none}
 
 -- 9 and 10 did not apply

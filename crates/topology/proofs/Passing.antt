@@ -5,7 +5,7 @@ use mathlib.Core.List.{List}
 use Prim.Native.Nat.{ℕ, suc, _+_, _-_, _≤_, _<_}
 use native.Mathlib.Omega.{arith}
 use native.Mathlib.Numerals.{add-one}
-use Rattle.topology.specs.Check.{Verdict, accepted, whenever, switchRule, switchesFrom, cableRule, cablesFrom}
+use Rattle.topology_rules.specs.Check.{Verdict, accepted, whenever, switchRule, switchesFrom, cableRule, cablesFrom}
 use Rattle.topology.specs.Reasons.{onward}
 use Rattle.topology.specs.declared.Reason.{Reason}
 use Rattle.topology.specs.declared.Checked.{Checked}

@@ -7,11 +7,11 @@ use native.Mathlib.Numerals.{add-one}
 use native.Mathlib.Omega.{arith}
 use lib.ListN.{length, getD, take, drop, set, length-append}
 use lib.Seq.{paste, paste-zero, paste-suc, length-paste-head, take-at, take-length, drop-append-add, drop-drop, sets-eq}
-use Rattle.topology.specs.Format.{endSwitch, endPort}
-use Rattle.topology.specs.Answers.{onto}
-use Rattle.topology.specs.Edit.{header, switchRecord, cableRecord, fall}
+use Rattle.topology_rules.specs.Format.{endSwitch, endPort}
+use Rattle.topology_rules.specs.Answers.{onto}
+use Rattle.topology_rules.specs.Edit.{header, switchRecord, cableRecord, fall}
 use Rattle.topology.specs.Inside.{Written}
-use Rattle.topology.proofs.Parts.{switch-byte}
+use Rattle.topology_rules.proofs.Parts.{switch-byte}
 
 -- one number more of a piece
 piece-more : (o w : List ℕ) (at k : ℕ) (now : List ℕ) → now ≡ paste o at w k → at + k < length o → k < length w

@@ -5,8 +5,8 @@ use Prim.Native.Nat.{ℕ, suc, _+_, _*_, _-_, _/_, _%_, _^_, _≤_, _<_}
 use native.Mathlib.Numerals.{add-one}
 use native.Mathlib.Omega.{arith}
 use lib.Dec.{T, eqb, leb}
-use Rattle.topology.specs.Count.{both, either, bit, any, least}
-use Rattle.topology.proofs.Searches.{T-any}
+use Rattle.topology_rules.specs.Count.{both, either, bit, any, least}
+use Rattle.topology_rules.proofs.Searches.{T-any}
 
 pub true-T : (b : Bool) → b ≡ true → T b
 true-T b e = rw e tt

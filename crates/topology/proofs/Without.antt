@@ -7,13 +7,13 @@ use native.Mathlib.Omega.{arith}
 use lib.ListN.{getD, length, length-append}
 use lib.Dec.{eqb}
 use borrow.Author.Tests.{ne-eqb, le-ltb}
-use Rattle.topology.specs.Count.{both, either, those}
-use Rattle.topology.specs.Format.{switchCount, cableCount, endSwitch, endPort}
-use Rattle.topology.specs.Answers.{onto}
-use Rattle.topology.specs.Accepted.{Accepted}
-use Rattle.topology.specs.Edit.{records, header, switchRecord, cableRecord, part, fall, clear, otherSwitches, otherCables, retired, pulled}
+use Rattle.topology_rules.specs.Count.{both, either, those}
+use Rattle.topology_rules.specs.Format.{switchCount, cableCount, endSwitch, endPort}
+use Rattle.topology_rules.specs.Answers.{onto}
+use Rattle.topology_rules.specs.Accepted.{Accepted}
+use Rattle.topology_rules.specs.Edit.{records, header, switchRecord, cableRecord, part, fall, clear, otherSwitches, otherCables, retired, pulled}
 use Rattle.topology.specs.Inside.{Written, stays, without}
-use Rattle.topology.proofs.Records.{those-listed, records-length}
+use Rattle.topology_rules.proofs.Records.{those-listed, records-length}
 use Rattle.topology.proofs.Pieces.{written-after, written-onto}
 
 -- tests that agree below a bound choose the same numbers

@@ -6,9 +6,9 @@ use mathlib.Core.List.{List}
 use lib.ListN.{getD, length}
 use lib.Seq.{paste}
 use lib.Dec.{eqb}
-use Rattle.topology.specs.Count.{both, any, those}
-use Rattle.topology.specs.Format.{switchCount, cableCount, endSwitch, endPort, endsAt}
-use Rattle.topology.specs.Edit.{part, fall, clear, otherSwitches}
+use Rattle.topology_rules.specs.Count.{both, any, those}
+use Rattle.topology_rules.specs.Format.{switchCount, cableCount, endSwitch, endPort, endsAt}
+use Rattle.topology_rules.specs.Edit.{part, fall, clear, otherSwitches}
 
 -- the counts that were read, and room for their records
 pub record Sized (d : List ℕ) (s l : ℕ) : Type 0 where

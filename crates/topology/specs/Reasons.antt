@@ -1,7 +1,7 @@
 -- The numbers and values of the answers that are enums in the code.
 use Prim.Native.Nat.{ℕ}
-use Rattle.topology.specs.Check.{Verdict, refuse, accepted}
-use Rattle.topology.specs.Answers.{Reply, done, refused}
+use Rattle.topology_rules.specs.Check.{Verdict, refuse, accepted}
+use Rattle.topology_rules.specs.Answers.{Reply, done, refused}
 use Rattle.topology.specs.declared.Reason.{Reason}
 use Rattle.topology.specs.declared.Reason.the-variants.{Short, Mark, Version, SwitchCount, CableCount, Length, Uid, Hosts, EndSwitch, EndPort, OneSwitch, PortTaken, NoSuchUid, OnlySwitch, NoCable, LittleRoom, Unsound, NoSuchPlace, BadAddress, ChannelEmpty, PortForbidden, ChannelTaken}
 use Rattle.topology.specs.declared.Checked.{Checked}

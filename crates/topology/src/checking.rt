@@ -2,7 +2,7 @@
 ghost use mathlib.Core.Path.{_≡_};
 ghost use Prim.Native.Nat.{_+_, _*_, _≤_};
 ghost use lib.ListN.{length};
-ghost use Rattle.topology.specs.Check.{Verdict, verdict, badCount, switchesFrom, cablesFrom};
+ghost use Rattle.topology_rules.specs.Check.{Verdict, verdict, badCount, switchesFrom, cablesFrom};
 ghost use Rattle.topology.specs.Reasons.{onward, verdictOf};
 ghost use Rattle.topology.specs.Inside.{Sized};
 use super::Checked;

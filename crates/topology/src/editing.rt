@@ -1,8 +1,8 @@
 // Retiring a switch and pulling a cable.
 ghost use mathlib.Core.Path.{_≡_};
 ghost use Prim.Native.Nat.{_*_, _<_};
-ghost use Rattle.topology.specs.Format.{cableCount, endsAt};
-ghost use Rattle.topology.specs.Edit.{cableOf, retire, pull};
+ghost use Rattle.topology_rules.specs.Format.{cableCount, endsAt};
+ghost use Rattle.topology_rules.specs.Edit.{cableOf, retire, pull};
 ghost use Rattle.topology.specs.Reasons.{editedOf};
 ghost use Rattle.topology.specs.Inside.{Sized};
 use super::Checked;

@@ -2,8 +2,8 @@
 ghost use mathlib.Core.Path.{_≡_};
 ghost use Prim.Native.Nat.{_+_, _*_, _<_};
 ghost use lib.ListN.{length, getD};
-ghost use Rattle.topology.specs.Format.{mark, be16, be48, switchCount, endSwitch, endPort};
-ghost use Rattle.topology.specs.Check.{markDiffers};
+ghost use Rattle.topology_rules.specs.Format.{mark, be16, be48, switchCount, endSwitch, endPort};
+ghost use Rattle.topology_rules.specs.Check.{markDiffers};
 
 fn joined(high: u8, low: u8) -> u16
     ensures { λ r. ⌜ r ≡ 256 * high + low ⌝ }

@@ -2,8 +2,8 @@
 ghost use mathlib.Core.Path.{_≡_};
 ghost use Prim.Native.Nat.{_+_, _*_, _≤_};
 ghost use lib.ListN.{length};
-ghost use Rattle.topology.specs.Format.{switchCount};
-ghost use Rattle.topology.specs.Edit.{find, findReply};
+ghost use Rattle.topology_rules.specs.Format.{switchCount};
+ghost use Rattle.topology_rules.specs.Edit.{find, findReply};
 ghost use Rattle.topology.specs.Reasons.{foundOf};
 use super::Checked;
 use super::Found;

@@ -1,7 +1,7 @@
 -- The first end, then the second.
 use mathlib.Core.Path.{_∙_, ap}
 use borrow.Author.Needs.{needs}
-use Rattle.topology.specs.Check.{badPort}
+use Rattle.topology_rules.specs.Check.{badPort}
 use Rattle.topology.proofs.Scans.{or-left, or-right}
 use Rattle.topology.proofs.cables.bad_ports.Statement.{statement}
 use Rattle.topology.proofs.cables.bad_ports.Tie as tie

@@ -3,7 +3,7 @@ use mathlib.Core.Path.{_≡_, sym, _∙_}
 use mathlib.Core.Bool.{false}
 use denote.Ref.{now}
 use borrow.Author.Needs.{needs}
-use Rattle.topology.specs.Check.{badSwitches, badPorts, oneSwitch}
+use Rattle.topology_rules.specs.Check.{badSwitches, badPorts, oneSwitch}
 use Rattle.topology.proofs.Passing.{applies, passes}
 use Rattle.topology.proofs.Noting.{ends}
 use Rattle.topology.proofs.cables.cable_record.Statement.{statement}

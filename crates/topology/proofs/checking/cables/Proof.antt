@@ -5,7 +5,7 @@ use native.Mathlib.Omega.{arith}
 use denote.Ref.{now}
 use borrow.Author.Needs.{needs}
 use Rattle.topology.specs.Inside.{Noted}
-use Rattle.topology.specs.Check.{cablesFrom, accepted}
+use Rattle.topology_rules.specs.Check.{cablesFrom, accepted}
 use Rattle.topology.proofs.Noting.{noted-none, kept-ends}
 use Rattle.topology.proofs.Passing.{cables-step, cables-done, ended, going}
 use Rattle.topology.proofs.checking.cables.Statement.{statement}

@@ -4,7 +4,7 @@ use Prim.Native.Nat.{_≤_, _-_}
 use native.Mathlib.Omega.{arith}
 use denote.Ref.{now}
 use borrow.Author.Needs.{needs}
-use Rattle.topology.specs.Check.{Verdict, switchesFrom}
+use Rattle.topology_rules.specs.Check.{Verdict, switchesFrom}
 use Rattle.topology.proofs.Passing.{switches-step, switches-done, ended, going}
 use Rattle.topology.proofs.checking.switches.Statement.{statement}
 use Rattle.topology.proofs.checking.switches.Tie as tie

@@ -6,9 +6,9 @@ use mathlib.Core.List.{List}
 use Prim.Native.Nat.{ℕ, _+_, _*_, _≤_, _-_}
 use native.Mathlib.Omega.{arith}
 use denote.Ref.{now}
-use Rattle.topology.specs.Count.{either, least}
-use Rattle.topology.specs.Format.{cableCount, endsAt}
-use Rattle.topology.specs.Edit.{cableOf}
+use Rattle.topology_rules.specs.Count.{either, least}
+use Rattle.topology_rules.specs.Format.{cableCount, endsAt}
+use Rattle.topology_rules.specs.Edit.{cableOf}
 use Rattle.topology.proofs.Scans.{either-left, either-right, least-hit, least-miss, least-none}
 use borrow.Author.Needs.{needs}
 use Rattle.topology.proofs.editing.cable_of.Statement.{statement}

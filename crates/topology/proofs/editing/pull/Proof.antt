@@ -1,7 +1,7 @@
 -- A refusal is handed on or found; past them all the writer has written the rest.
 use native.Mathlib.Omega.{arith}
 use denote.Ref.{now}
-use Rattle.topology.specs.Accepted.{Accepted}
+use Rattle.topology_rules.specs.Accepted.{Accepted}
 use Rattle.topology.specs.Inside.{Sized}
 use Rattle.topology.proofs.Handing.{is-accepted}
 use Rattle.topology.proofs.EditAnswers.{sized, pull-refused, pull-unknown, pull-none, pull-little, pull-written, pull-asks}

@@ -2,7 +2,7 @@
 use native.Mathlib.Omega.{arith}
 use denote.Ref.{now}
 use borrow.Author.Needs.{needs}
-use Rattle.topology.specs.Accepted.{Accepted}
+use Rattle.topology_rules.specs.Accepted.{Accepted}
 use Rattle.topology.proofs.Handing.{is-accepted}
 use Rattle.topology.proofs.FindAnswers.{find-refused, find-unknown, find-found}
 use Rattle.topology.proofs.seeking.find.Statement.{statement}

@@ -6,9 +6,9 @@ use lib.Dec.{eqb}
 use denote.Ref.{now}
 use borrow.Author.Tests.{eq-eqb, ne-eqb}
 use borrow.Author.Needs.{needs}
-use Rattle.topology.specs.Edit.{find}
-use Rattle.topology.specs.Format.{uidAt, switchCount}
-use Rattle.topology.specs.Count.{least}
+use Rattle.topology_rules.specs.Edit.{find}
+use Rattle.topology_rules.specs.Format.{uidAt, switchCount}
+use Rattle.topology_rules.specs.Count.{least}
 use Rattle.topology.proofs.Scans.{least-hit, least-miss, least-none}
 use Rattle.topology.proofs.seeking.seek.Statement.{statement}
 use Rattle.topology.proofs.seeking.seek.Tie as tie

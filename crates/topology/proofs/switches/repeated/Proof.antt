@@ -5,8 +5,8 @@ use Prim.Native.Nat.{_≤_, _-_}
 use lib.Dec.{eqb}
 use borrow.Author.Needs.{needs}
 use borrow.Author.Tests.{eq-eqb, ne-eqb}
-use Rattle.topology.specs.Count.{any}
-use Rattle.topology.specs.Format.{uidAt}
+use Rattle.topology_rules.specs.Count.{any}
+use Rattle.topology_rules.specs.Format.{uidAt}
 use Rattle.topology.proofs.Scans.{any-none, any-next, any-hit, any-end}
 use Rattle.topology.proofs.switches.repeated.Statement.{statement}
 use Rattle.topology.proofs.switches.repeated.Tie as tie

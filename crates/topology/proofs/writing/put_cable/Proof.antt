@@ -4,7 +4,7 @@ use Prim.Native.Nat.{_+_, _*_}
 use native.Mathlib.Omega.{arith}
 use lib.Seq.{paste}
 use denote.Ref.{now}
-use Rattle.topology.specs.Format.{cablesAt}
+use Rattle.topology_rules.specs.Format.{cablesAt}
 use Rattle.topology.proofs.Pieces.{cable-numbers}
 use borrow.Author.Needs.{needs}
 use Rattle.topology.proofs.writing.put_cable.Statement.{statement}

@@ -5,8 +5,8 @@ use native.Mathlib.Omega.{arith}
 use lib.ListN.{length}
 use borrow.Author.Tests.{not-true, not-false}
 use denote.Ref.{now}
-use Rattle.topology.specs.Count.{those}
-use Rattle.topology.specs.Edit.{cableRecord, records, fall}
+use Rattle.topology_rules.specs.Count.{those}
+use Rattle.topology_rules.specs.Edit.{cableRecord, records, fall}
 use Rattle.topology.specs.Inside.{Written, stays}
 use Rattle.topology.proofs.Choices.{none-yet, passed-over, next-fits, one-more}
 use borrow.Author.Needs.{needs}

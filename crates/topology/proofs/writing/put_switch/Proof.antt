@@ -5,7 +5,7 @@ use native.Mathlib.Omega.{arith}
 use lib.ListN.{length, length-set}
 use lib.Seq.{paste, paste-zero}
 use denote.Ref.{now}
-use Rattle.topology.specs.Edit.{switchRecord}
+use Rattle.topology_rules.specs.Edit.{switchRecord}
 use Rattle.topology.proofs.Pieces.{switch-more}
 use borrow.Author.Needs.{needs}
 use Rattle.topology.proofs.writing.put_switch.Statement.{statement}

@@ -7,8 +7,8 @@ use lib.ListN.{length}
 use lib.Dec.{eqb}
 use borrow.Author.Tests.{eq-eqb, ne-eqb}
 use denote.Ref.{now}
-use Rattle.topology.specs.Count.{those}
-use Rattle.topology.specs.Edit.{switchRecord, records}
+use Rattle.topology_rules.specs.Count.{those}
+use Rattle.topology_rules.specs.Edit.{switchRecord, records}
 use Rattle.topology.specs.Inside.{Written}
 use Rattle.topology.proofs.Choices.{none-yet, passed-over, next-fits, one-more}
 use borrow.Author.Needs.{needs}

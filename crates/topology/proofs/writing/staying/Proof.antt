@@ -5,7 +5,7 @@ use Prim.Native.Nat.{_≤_, _-_}
 use native.Mathlib.Omega.{arith}
 use lib.ListN.{length}
 use denote.Ref.{now}
-use Rattle.topology.specs.Count.{those}
+use Rattle.topology_rules.specs.Count.{those}
 use Rattle.topology.specs.Inside.{stays}
 use Rattle.topology.proofs.Choices.{count-more, count-less, count-none}
 use borrow.Author.Needs.{needs}

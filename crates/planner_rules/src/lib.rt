@@ -1,0 +1,1 @@
+//! The rules of trees, routes and tables: definitions in specs/, their laws in proofs/. No code.

@@ -1,0 +1,12 @@
+pub mod Count
+pub mod Format
+pub mod Check
+pub mod Accepted
+pub mod Net
+pub mod Refusals
+pub mod Answers
+pub mod Edit
+pub mod EditRules
+pub mod Case
+pub mod Samples
+pub mod Examples
