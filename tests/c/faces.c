@@ -7,15 +7,20 @@
 #include <stdlib.h>
 #include <string.h>
 
-static unsigned passed, failed;
+/* single comparisons, and the tests that they make up */
+static unsigned compared, wrong, passed, failed;
 
 static void expect(bool right, const char *what) {
-    if (right) {
-        passed++;
-    } else {
-        failed++;
-        if (failed <= 20) printf("FAILED: %s\n", what);
-    }
+    compared++;
+    if (!right && ++wrong <= 20) printf("FAILED: %s\n", what);
+}
+
+/* closes a test: it passed if none of its comparisons went wrong */
+static void test(const char *name) {
+    if (wrong == 0) passed++;
+    else failed++;
+    printf("%s: %u compared, %u wrong\n", name, compared, wrong);
+    compared = wrong = 0;
 }
 
 static uint64_t refusal(unsigned number, unsigned position) { return (uint64_t)number << 32 | position; }
@@ -212,9 +217,15 @@ static void sample(const char *name) {
 int main(void) {
     static const char *const names[] = {"r5", "reg12", "ring64", "torus4x8", "torus4x8_30", "torus8x8", "turn2"};
     known_checks();
+    test("known checks");
     known_edits();
-    for (size_t i = 0; i < sizeof names / sizeof *names; i++) sample(names[i]);
+    test("known edits");
+    for (size_t i = 0; i < sizeof names / sizeof *names; i++) {
+        sample(names[i]);
+        test(names[i]);
+    }
     random_nets(3000);
+    test("random and damaged nets");
     printf("faces: %u passed, %u failed\n", passed, failed);
     return failed != 0;
 }
