@@ -19,25 +19,39 @@ use Rattle.planner_rules.proofs.Levels.{level-walk, level-least, level-
 use Rattle.planner_rules.proofs.Order.{T-above}
 
 module _ (n : Net) where
-  rises-T : (s ch : ℕ) → ch < n .channels → T (rises n s ch) → Rises n s ch
+  pub rises-T : (s ch : ℕ) → ch < n .channels → T (rises n s ch) → Rises n s ch
   rises-T s ch h t =
       let p = both-T (eqb (n .source ch) s) (eqb (suc (level n (target n ch))) (level n s)) t in
       record { is-live = h; starts = eqb→eq (n .source ch) s (p .0); lower = eqb→eq (suc (level n (target n ch))) (level n s) (p .1) }
 
-  T-rises : (s ch : ℕ) → Rises n s ch → T (rises n s ch)
+  pub T-rises : (s ch : ℕ) → Rises n s ch → T (rises n s ch)
   T-rises s ch r = T-both (eqb (n .source ch) s) (eqb (suc (level n (target n ch))) (level n s))
       (eq→eqb (n .source ch) s (r .starts)) (eq→eqb (suc (level n (target n ch))) (level n s) (r .lower))
 
-  preferred-irreflexive : (a : ℕ) → T (preferred n a a) → ⊥
+  pub preferred-irreflexive : (a : ℕ) → T (preferred n a a) → ⊥
   preferred-irreflexive a t = let u = n .uid (target n a) in lex-irreflexive u (n .outPort a) (lex-T u (n .outPort a) u (n .outPort a) t)
 
-  preferred-transitive : (a b c : ℕ) → T (preferred n a b) → T (preferred n b c) → T (preferred n a c)
+  pub preferred-transitive : (a b c : ℕ) → T (preferred n a b) → T (preferred n b c) → T (preferred n a c)
   preferred-transitive a b c p q =
       let u = n .uid (target n a) in
       let v = n .uid (target n b) in
       let x = n .uid (target n c) in
       T-lex u (n .outPort a) x (n .outPort c)
       (lex-transitive u (n .outPort a) v (n .outPort b) x (n .outPort c) (lex-T u (n .outPort a) v (n .outPort b) p) (lex-T v (n .outPort b) x (n .outPort c) q))
+
+  -- a channel that no other is preferred to leads to the parent
+  pub first-parent : (s a : ℕ) → First (rises n s) (preferred n) (n .channels) a → Parent n s a
+  first-parent s a f = record {
+    rising = rises-T s a (f .0) (f .1);
+    lowest = λ b r. elim (split (n .uid (target n b)) (n .uid (target n a))) [
+      | inl p ↦ absurd (f .2 b (r .is-live) (T-rises s b r) (T-lex (n .uid (target n b)) (n .outPort b) (n .uid (target n a)) (n .outPort a) (inl p)))
+      | inr p ↦ p
+    ];
+    lowest-port = λ b r e. elim (split (n .outPort b) (n .outPort a)) [
+      | inl p ↦ absurd (f .2 b (r .is-live) (T-rises s b r) (T-lex (n .uid (target n b)) (n .outPort b) (n .uid (target n a)) (n .outPort a) (inr (ap (n .uid) e, p))))
+      | inr p ↦ p
+    ];
+  }
 
   module _ (w : WellFormed n) where
     -- a switch above level 0 has a way one level lower
@@ -62,20 +76,7 @@ module _ (n : Net) where
         first-is (rises n s) (preferred n) preferred-irreflexive preferred-transitive (n .channels) (r .0) (r .1 .is-live) (T-rises s (r .0) (r .1))
 
     pub parent-is : (s : ℕ) → s < n .switches → 0 < level n s → Parent n s (parentChannel n s)
-    parent-is s h l = go (parentChannel n s) (parent-first s h l)
-      where
-        go : (a : ℕ) → First (rises n s) (preferred n) (n .channels) a → Parent n s a
-        go a f = record {
-          rising = rises-T s a (f .0) (f .1);
-          lowest = λ b r. elim (split (n .uid (target n b)) (n .uid (target n a))) [
-            | inl p ↦ absurd (f .2 b (r .is-live) (T-rises s b r) (T-lex (n .uid (target n b)) (n .outPort b) (n .uid (target n a)) (n .outPort a) (inl p)))
-            | inr p ↦ p
-          ];
-          lowest-port = λ b r e. elim (split (n .outPort b) (n .outPort a)) [
-            | inl p ↦ absurd (f .2 b (r .is-live) (T-rises s b r) (T-lex (n .uid (target n b)) (n .outPort b) (n .uid (target n a)) (n .outPort a) (inr (ap (n .uid) e, p))))
-            | inr p ↦ p
-          ];
-        }
+    parent-is s h l = first-parent s (parentChannel n s) (parent-first s h l)
 
     -- a root has none
     pub parent-none : (s : ℕ) → level n s ≡ 0 → parentChannel n s < n .channels → ⊥

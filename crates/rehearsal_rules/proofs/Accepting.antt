@@ -2,21 +2,17 @@
 use Prim.Native.Nat.{ℕ, _<_}
 use native.Mathlib.Omega.{arith}
 use mathlib.Core.List.{List}
-use mathlib.Core.Bool.{not}
 use mathlib.Core.Path.{_≡_, refl, sym, _∙_, ap, subst}
 use mathlib.Core.Logic.{_↔_, _⊎_, inl, inr}
 use lib.ListN.{set, getD}
-use lib.Dec.{T, T-not}
-use Rattle.topology_rules.specs.Check.{Verdict, accepted}
-use Rattle.topology_rules.specs.Net.{Net, WellFormed, netOf, target}
+use lib.Dec.{T}
+use Rattle.topology_rules.specs.Check.{Verdict}
+use Rattle.topology_rules.specs.Net.{Net, WellFormed, target}
 use Rattle.topology_rules.specs.Refusals.{Returned}
-use Rattle.topology_rules.proofs.Tests.{decide}
 use Rattle.planner_rules.specs.Rules.{Leaves}
 use Rattle.planner_rules.proofs.Ports.{leaves-leaving, cable-or-out}
 use Rattle.rehearsal_rules.specs.Answers.{Order, Answer, moved, delivered, refused, isAccepted, verdictOf}
-use Rattle.rehearsal_rules.specs.Record.{soundOn, callOn, Rehearsal, descriptionOf, soundRecord, call}
-use Rattle.rehearsal_rules.specs.Rules.{SoundOn, SoundRecord, Does, OrderWrong}
-use Rattle.rehearsal_rules.proofs.Fitness.{sound-exactly, record-exactly}
+use Rattle.rehearsal_rules.specs.Rules.{Does, OrderWrong}
 use Rattle.rehearsal_rules.proofs.Refusing.{late, unsound-applies}
 
 module _ (P : ℕ → ℕ → Type 0) (positive : (k i : ℕ) → P k i → 0 < k) where

@@ -27,7 +27,8 @@ those-same f g (suc k) a same = go (f a) (g a) _ _ (same a (omega arith)) (those
     go b true l m e s = rw e (ap (λ x. a ∷ x) s)
     go b false l m e s = rw e s
 
-records-same : (r q : ℕ → List ℕ) (is : List ℕ) → ((j : ℕ) → j < length is → r (getD is j 0) ≡ q (getD is j 0)) → records r is ≡ records q is
+-- records that agree one by one
+pub records-same : (r q : ℕ → List ℕ) (is : List ℕ) → ((j : ℕ) → j < length is → r (getD is j 0) ≡ q (getD is j 0)) → records r is ≡ records q is
 unfolding records
 records-same r q [] same = refl
 records-same r q (i ∷ is) same = let rest = records-same r q is (λ j h. same (suc j) (omega arith)) in rw (same 0 (omega arith), rest) refl

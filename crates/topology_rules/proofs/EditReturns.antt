@@ -1,26 +1,36 @@
--- Retiring and pulling return the first refusal that applies.
+-- Retiring and pulling return the first refusal that applies; finding returns 0 where a record has the UID.
 use mathlib.Core.Path.{_≡_, refl}
 use mathlib.Core.Logic.{_⊎_, inl, inr}
+use mathlib.Core.Bool.{Bool, true, false}
 use mathlib.Core.List.{List, [], _∷_}
 use Prim.Native.Nat.{ℕ, _≤_, _<_}
 use native.Mathlib.Omega.{arith}
 use lib.ListN.{length}
 use lib.Dec.{T, eqb, ltb, leb, eqb→eq, ltb→lt, lt→ltb, lit<}
 use Rattle.topology_rules.specs.Format.{switchCount, cableCount}
+use Rattle.topology_rules.specs.Check.{refuse, accepted, whenever}
 use Rattle.topology_rules.specs.Refusals.{Returned, Wrong}
 use Rattle.topology_rules.specs.Accepted.{Accepted}
-use Rattle.topology_rules.specs.Edit.{find, cableOf, retired, pulled, retireVerdict, pullVerdict}
+use Rattle.topology_rules.specs.Edit.{find, cableOf, retired, pulled, findVerdict, retireVerdict, pullVerdict}
 use Rattle.topology_rules.specs.EditRules.{Named, CableAt, RetireWrong, PullWrong, only-switch, no-cable}
 use Rattle.topology_rules.proofs.Tests.{eq→eqb}
 use Rattle.topology_rules.proofs.Chains.{Rules, Says, testOf, and-then}
 use Rattle.topology_rules.proofs.Firsts.{Settled, returned, settled-zero}
 use Rattle.topology_rules.proofs.Verdicts.{accepted-rule}
-use Rattle.topology_rules.proofs.Jobs.{checked-settled}
+use Rattle.topology_rules.proofs.Jobs.{checked-cases, checked-settled}
 use Rattle.topology_rules.proofs.Finding.{unknown-rule, known, none-rule, cabled, found-once, cable-once}
 
 module _ (d : List ℕ) (u : ℕ) where
   abbrev found : ℕ
   found = find d u
+
+  pub find-allowed : findVerdict d u .number ≡ 0 → Accepted d × Named d u found
+  unfolding findVerdict
+  find-allowed = checked-cases d (λ v. v .number ≡ 0 → Accepted d × Named d u found) _ (λ a e. (a, go (leb (switchCount d) found) e (known d u))) (λ h e. absurd (omega arith))
+    where
+      go : (b : Bool) → whenever b (refuse 13 0) accepted .number ≡ 0 → ((T b → ⊥) → Named d u found) → Named d u found
+      go true e f = absurd (omega arith)
+      go false e f = f (λ t. t)
 
   module _ (room : ℕ) where
     retire-settled : Settled (RetireWrong d u room) (retireVerdict d u room)

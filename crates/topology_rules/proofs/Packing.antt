@@ -2,7 +2,7 @@
 use Prim.Native.Nat.{ℕ, _+_, _*_, _^_, _<_}
 use mathlib.Core.Path.{_≡_, refl, ap}
 use native.Mathlib.Omega.{arith}
-use Rattle.topology_rules.specs.Check.{Verdict, refuse}
+use Rattle.topology_rules.specs.Check.{refuse}
 use Rattle.topology_rules.specs.Answers.{Reply, done, refused, packed}
 use Rattle.topology_rules.proofs.Firsts.{same-verdict}
 
