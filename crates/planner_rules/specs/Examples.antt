@@ -7,12 +7,14 @@ use lib.ListN.{set}
 use Rattle.topology_rules.specs.Count.{any, least, first, count, bits, those}
 use Rattle.topology_rules.specs.Check.{verdict, switchesFrom, cablesFrom}
 use Rattle.topology_rules.specs.Net.{Net, netOf, leaving}
-use Rattle.topology_rules.specs.Edit.{find, records}
+use Rattle.topology_rules.specs.Edit.{find, findVerdict, records}
 use Rattle.topology_rules.specs.Case.{Case, case, allRight, shown}
 use Rattle.topology_rules.specs.Samples.{r5, pair, triangle, twins, diamond}
 use Rattle.planner_rules.specs.Tree.{within, root, level, above, up, parentChannel, upEnd, parentNumber, parentPort}
 use Rattle.planner_rules.specs.Routes.{free, bound, way, legalLength}
 use Rattle.planner_rules.specs.Table.{holder, arrival, begins, entry, entryAt, tableVerdict}
+use Rattle.planner_rules.specs.Stand as stand
+use Rattle.planner_rules.specs.Stand.{Stands, stands}
 use Rattle.planner_rules.specs.Printed.{digits, hex, fields, planText, printed}
 
 abbrev ring : Net
@@ -66,6 +68,23 @@ tables =
 pub tables-right : allRight tables ≡ true
 unfolding tables r5 pair twins verdict switchesFrom cablesFrom find tableVerdict netOf leaving within root level above up way legalLength holder arrival begins entry any least first count bits
 tables-right = refl
+
+-- 0, level, parent and port; or a refusal's number and position
+abbrev placed : Stands → List ℕ
+placed (stand.at l p q) = 0 ∷ l ∷ p ∷ q ∷ []
+placed (stand.refused v) = shown v
+
+unfoldable pub standing : List Case
+standing =
+    -- a child, the root, and the switch of UID 40 in R5
+    case 1 (placed (stands pair 2) ++ placed (stands pair 1) ++ placed (stands r5 40)) (0 ∷ 1 ∷ 1 ∷ 1 ∷ 0 ∷ 0 ∷ 0 ∷ 0 ∷ 0 ∷ 2 ∷ 5 ∷ 2 ∷ [])
+    -- no switch of that UID; no description
+    ∷ case 2 (placed (stands pair 3) ++ placed (stands [] 1)) (13 ∷ 0 ∷ 1 ∷ 0 ∷ [])
+    ∷ []
+
+pub standing-right : allRight standing ≡ true
+unfolding standing stands r5 pair verdict switchesFrom cablesFrom find findVerdict netOf leaving within root level above up parentChannel parentNumber parentPort any least first count
+standing-right = refl
 
 -- what R5 prints: plan 5 5, five switches, five cables
 unfoldable pub r5Text : List ℕ
