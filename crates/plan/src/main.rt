@@ -1,4 +1,5 @@
 //! Prints the plan of the description on standard input, of which it keeps at most 2,058 bytes.
+#![tactic(auto)]
 use libc::{STDIN_FILENO, STDOUT_FILENO};
 use planner::Plan;
 

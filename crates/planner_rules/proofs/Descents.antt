@@ -41,7 +41,7 @@ module _ (n : Net) where
     -- each crossing of a packet that may only go down descends, and starts no higher than the route
     pub bound_descends : (s t : ℕ) (r : List ℕ) → Legal n bound s r t → (ch : ℕ) → Memᴰ ch r
         → T (above n (n.source ch) (target n ch)) × AtOrBelow s (n.source ch)
-    bound_descends s t [] p ch m = absurd (Memᴰ.not_nil m)
+    bound_descends s t [] p ch m = absurd (Memᴰ.not-nil m)
     bound_descends s t (c ∷ r) p ch m = go (bound_descends (target n c) t r (rw (after_down (up n c) d) at p.3) ch) (Memᴰ.cases_cons m)
       where
         d : T (up n c) → ⊥
@@ -63,7 +63,7 @@ module _ (n : Net) where
 
     -- an up crossing of a legal route starts no lower than the route
     pub free_climbs : (s t : ℕ) (r : List ℕ) → Legal n free s r t → (ch : ℕ) → Memᴰ ch r → T (up n ch) → AtOrAbove s (n.source ch)
-    free_climbs s t [] p ch m u = absurd (Memᴰ.not_nil m)
+    free_climbs s t [] p ch m u = absurd (Memᴰ.not-nil m)
     free_climbs s t (c ∷ r) p ch m u = go (λ q. free_climbs (target n c) t r q ch) (Memᴰ.cases_cons m) (decide (up n c))
       where
         go : (Legal n free (target n c) r t → Memᴰ ch r → T (up n ch) → AtOrAbove (target n c) (n.source ch))

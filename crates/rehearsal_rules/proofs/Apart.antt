@@ -52,4 +52,4 @@ module _ (n : Net) (holds : Tables) (Fit : ℕ → ℕ → Type 0) (rank : ℕ �
     stay_apart held [] s w v at bt ap = ap
     stay_apart held (o ∷ os) s w v at bt ap =
         let f = effect n holds held o in
-        stay_apart _ os (sound_next n holds Fit rank law held o s) _ _ (one_hop n holds Fit rank law a held f s w at) (one_hop n holds Fit rank law b held f s v bt) (hops_apart held f s w v at bt ap)
+        stay_apart ((moving n holds).next held o) os (sound_next n holds Fit rank law held o s) _ _ (one_hop n holds Fit rank law a held f s w at) (one_hop n holds Fit rank law b held f s v bt) (hops_apart held f s w v at bt ap)

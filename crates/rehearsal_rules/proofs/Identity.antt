@@ -56,4 +56,4 @@ module _ (n : Net) (holds : Tables) (Fit : ℕ → ℕ → Type 0) (rank : ℕ �
         → At n a (last (moving n holds) held os) (followed n w os (answers (moving n holds) held os))
     unfolding last answers followed
     keeps_address held [] s w at = at
-    keeps_address held (o ∷ os) s w at = keeps_address _ os (sound_next n holds Fit rank law held o s) _ (one_hop held (effect n holds held o) s w at)
+    keeps_address held (o ∷ os) s w at = keeps_address ((moving n holds).next held o) os (sound_next n holds Fit rank law held o s) _ (one_hop held (effect n holds held o) s w at)

@@ -5,8 +5,8 @@ use mathlib.Core.List.{List}
 use Prim.Native.Nat.{ℕ, ◌≤◌}
 use lib.ListN.{length}
 use lib.Dec.{eqb, ltb}
-use borrow.Author.Tests.{eq-eqb, ne_eqb, ltb-false}
-use Rattle.topology_rules.specs.Format.{switch_count, cable_count, size_for}
+use borrow.Author.Tests.{eq-eqb, ne_eqb, ltb-false, le-ltb}
+use Rattle.topology_rules.specs.Format.{version_of, switch_count, cable_count, size_for}
 use Rattle.topology_rules.specs.Check.{Verdict, refuse, accepted, whenever, verdict, mark_differs, version_differs, bad_count, length_differs, switches_from, cables_from}
 use Rattle.topology.specs.Reasons.{onward, verdict_of}
 use Rattle.topology.specs.declared.Reason.{Reason}
@@ -42,6 +42,26 @@ module _ (d : List ℕ) where
 -- the rules before these do not apply
 abbrev pub Left : (List ℕ → Verdict) → List ℕ → Type 0
 Left rules d = verdict d ≡ rules d
+
+-- one after the other they do not apply
+module _ (d : List ℕ) (long : 9 ≤ length d) where
+  pub not_short : Left from_mark d
+  not_short = from_start d ∙ passes _ _ _ (le-ltb _ _ long)
+
+  module _ (same : mark_differs d ≡ false) where
+    pub right_mark : Left from_version d
+    right_mark = not_short ∙ passes _ _ _ same
+
+    module _ (one : version_of d ≡ 1) where
+      pub right_version : Left from_switches d
+      right_version = right_mark ∙ passes _ _ _ (ap not (eq-eqb _ _ one))
+
+      module _ (some : bad_count (switch_count d) ≡ false) where
+        pub right_switches : Left from_cables d
+        right_switches = right_version ∙ passes _ _ _ some
+
+        pub right_cables : cable_count d ≤ 384 → Left from_length d
+        right_cables few = right_switches ∙ passes _ _ _ (le-ltb _ _ few)
 
 -- 6, or the records
 module _ (d : List ℕ) (e : Left from_length d) where

@@ -1,4 +1,5 @@
 //! Prints level, parent's number and parent port of the switch with UID 2 in the description on standard input.
+#![tactic(auto)]
 use libc::{STDIN_FILENO, STDOUT_FILENO};
 use planner::Stand;
 
