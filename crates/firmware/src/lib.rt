@@ -1,5 +1,6 @@
 //! What the controller's C firmware calls. Each answer is one number: refusal number × 2^32 + position, or 0 and what is returned.
 #![tactic(auto)]
+
 ghost use Rattle.std.specs.Prelude.{◌≡◌, ◌+◌, ◌*◌, ◌^◌};
 ghost use Rattle.topology_rules.specs.Check.{verdict};
 ghost use Rattle.topology_rules.specs.Answers.{answered, packed};
