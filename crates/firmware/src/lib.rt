@@ -26,8 +26,8 @@ pub extern "C" fn udr_check(d: &[u8]) -> u64
 
 #[unsafe(no_mangle)]
 pub extern "C" fn udr_retire(d: &[u8], uid: u64, out: &mut [u8]) -> u64
-    ensures value { result ≡ packed (retire d.now uid out.old).reply }
-    ensures out_after { out.new ≡ (retire d.now uid out.old).out }
+    ensures answer { result ≡ packed (retire d.now uid out.old).reply }
+    ensures output { out.new ≡ (retire d.now uid out.old).out }
 {
     match topology::retire(d, uid, out) {
         Edited::Written(n) => n as u64,
@@ -37,8 +37,8 @@ pub extern "C" fn udr_retire(d: &[u8], uid: u64, out: &mut [u8]) -> u64
 
 #[unsafe(no_mangle)]
 pub extern "C" fn udr_pull(d: &[u8], uid: u64, port: u64, out: &mut [u8]) -> u64
-    ensures value { result ≡ packed (pull d.now uid port out.old).reply }
-    ensures out_after { out.new ≡ (pull d.now uid port out.old).out }
+    ensures answer { result ≡ packed (pull d.now uid port out.old).reply }
+    ensures output { out.new ≡ (pull d.now uid port out.old).out }
 {
     match topology::pull(d, uid, port, out) {
         Edited::Written(n) => n as u64,

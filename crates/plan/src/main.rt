@@ -1,12 +1,15 @@
 //! Prints the plan of the description on standard input, of which it keeps at most 2,058 bytes.
 #![tactic(auto)]
-use libc::{STDIN_FILENO, STDOUT_FILENO};
-use planner::Plan;
 
-fn main() {
+use planner::Plan;
+use std::io;
+use std::io::Write;
+use streams::read_full;
+
+fn main(rt: HostRuntime) -> io::Result<()> {
     let mut kept = [0u8; 2058];
-    let n = io::read_full(STDIN_FILENO, &mut kept);
+    let n = read_full(&mut rt.reader(), &mut kept)?;
     let mut text = [0u8; Plan::CHARACTERS];
     let length = planner::print(&kept[..n], &mut text);
-    io::write_all(STDOUT_FILENO, &text[..length]);
+    io::writer(&rt).write_all(&text[..length])
 }

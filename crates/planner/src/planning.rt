@@ -53,8 +53,8 @@ fn print_accepted(
     out: &mut [u8; Plan::CHARACTERS],
 ) -> usize
     requires { Accepted d.now × (switches ≡ switch_count d.now) × (cables ≡ cable_count d.now) }
-    ensures value { result ≡ length (printed d.now) }
-    ensures out_after { out.new ≡ onto (printed d.now) out.old }
+    ensures answer { result ≡ length (printed d.now) }
+    ensures output { out.new ≡ onto (printed d.now) out.old }
 {
     let lists = list(d, switches, cables);
     let uid = lists.uid;
@@ -66,9 +66,9 @@ fn print_accepted(
 
 /// The plan of any bytes, or the line of their first refusal, at the start of the buffer; its length.
 pub fn print(d: &[u8], out: &mut [u8; Plan::CHARACTERS]) -> usize
-    ensures value { result ≡ length (printed d.now) }
-    ensures out_after { out.new ≡ onto (printed d.now) out.old }
-    ensures upper_bound { (result ≤ length out.new) × (result ≡ length (take result out.new)) }
+    ensures answer { result ≡ length (printed d.now) }
+    ensures output { out.new ≡ onto (printed d.now) out.old }
+    ensures whole { (result ≤ length out.new) × (result ≡ length (take result out.new)) }
 {
     match topology::check(d) {
         Checked::Refused(r, at) => refused_line(topology::number_of(r) as usize, at as usize, out),

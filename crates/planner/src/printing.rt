@@ -113,8 +113,8 @@ pub fn write_plan(
     out: &mut [u8; Plan::CHARACTERS],
 ) -> usize
     requires { (s ≤ 64) × (l ≤ 384) × (length (plan_from s l uids.now levels.now parents.now ups.now) ≤ 5452) }
-    ensures value { result ≡ length (plan_from s l uids.now levels.now parents.now ups.now) }
-    ensures out_after { out.new ≡ onto (plan_from s l uids.now levels.now parents.now ups.now) out.old }
+    ensures answer { result ≡ length (plan_from s l uids.now levels.now parents.now ups.now) }
+    ensures output { out.new ≡ onto (plan_from s l uids.now levels.now parents.now ups.now) out.old }
 {
     let switches = put_line(b"plan", s, l, out, 0);
     let links = switch_lines(s, uids, levels, parents, out, switches);
@@ -124,8 +124,8 @@ pub fn write_plan(
 /// The line of a refusal at the start of the buffer; its length.
 pub fn refused_line(number: usize, position: usize, out: &mut [u8; Plan::CHARACTERS]) -> usize
     requires { (number < 1000) × (position < 1000) }
-    ensures value { result ≡ length (line refused_word (decimal number ∷ decimal position ∷ [])) }
-    ensures out_after { out.new ≡ onto (line refused_word (decimal number ∷ decimal position ∷ [])) out.old }
+    ensures answer { result ≡ length (line refused_word (decimal number ∷ decimal position ∷ [])) }
+    ensures output { out.new ≡ onto (line refused_word (decimal number ∷ decimal position ∷ [])) out.old }
 {
     put_line(b"refused", number, position, out, 0)
 }

@@ -2,7 +2,7 @@
 ghost use Rattle.std.specs.Prelude.{◌≡◌, ◌+◌, ◌*◌, ◌<◌, ◌≤◌, slice_index, length};
 ghost use Rattle.topology_rules.specs.Format.{switch_count, cable_count};
 ghost use Rattle.topology_rules.specs.Accepted.{Accepted};
-ghost use Rattle.topology_rules.specs.Net.{back as backOf};
+ghost use Rattle.topology_rules.specs.Net.{back as back_of};
 ghost use Rattle.planner.specs.Wiring.{Wired, Tells};
 
 /// The switch that each channel leaves and the one it leads to, and the port it leaves by.
@@ -16,7 +16,7 @@ pub struct Wiring {
 // The channel the other way over the same cable.
 fn back(ch: usize) -> usize
     requires { ch < 768 }
-    ensures { (result ≡ backOf ch) × (result < 768) }
+    ensures { (result ≡ back_of ch) × (result < 768) }
 {
     if ch % 2 == 0 { ch + 1 } else { ch - 1 }
 }
@@ -38,7 +38,7 @@ fn ends(d: &[u8], at: usize, channels: usize) -> [u8; 768]
 // The source of each channel's way back.
 fn targets(source: &[u8; 768], cables: usize) -> [u8; 768]
     requires { cables ≤ 384 }
-    ensures { Tells (2 * cables) result (λ ch. slice_index source.now (backOf ch)) }
+    ensures { Tells (2 * cables) result (λ ch. slice_index source.now (back_of ch)) }
 {
     let channels = 2 * cables;
     let mut target = [0u8; 768];

@@ -13,8 +13,8 @@ use super::{Checked, Edited, Reason};
 
 /// The description without the switch of that UID and its cables, written at the start of `out`: its length, or the first refusal of 1 to 14 and 16.
 pub fn retire(d: &[u8], uid: u64, out: &mut [u8]) -> Edited
-    ensures result_value { edited_of result ≡ (retire d.now uid out.old).reply }
-    ensures out_after { out.new ≡ (retire d.now uid out.old).out }
+    ensures answer { edited_of result ≡ (retire d.now uid out.old).reply }
+    ensures output { out.new ≡ (retire d.now uid out.old).out }
 {
     if let Checked::Refused(r, at) = check(d) {
         return Edited::Refused(r, at);
@@ -59,8 +59,8 @@ fn cable_of(d: &[u8], s: usize, l: usize, x: usize, p: u64) -> usize
 
 /// The description without the cable at that UID and port, written at the start of `out`: its length, or the first refusal of 1 to 13, 15 and 16.
 pub fn pull(d: &[u8], uid: u64, port: u64, out: &mut [u8]) -> Edited
-    ensures result_value { edited_of result ≡ (pull d.now uid port out.old).reply }
-    ensures out_after { out.new ≡ (pull d.now uid port out.old).out }
+    ensures answer { edited_of result ≡ (pull d.now uid port out.old).reply }
+    ensures output { out.new ≡ (pull d.now uid port out.old).out }
 {
     if let Checked::Refused(r, at) = check(d) {
         return Edited::Refused(r, at);

@@ -158,8 +158,8 @@ pub fn write_without(
 ) -> usize
     requires { Sized d.now s l × (l ≡ cable_count d.now) × (t ≡ length (those s 0 (λ j. not (nat_eq j x)))) × (t ≤ s)
         × (k ≡ length (those l 0 (stays d.now x b))) × (k ≤ l) × (9 + 8 * t + 4 * k ≤ length out.old) }
-    ensures value { result ≡ length (without d.now x b) }
-    ensures out_after { out.new ≡ onto (without d.now x b) out.old }
+    ensures answer { result ≡ length (without d.now x b) }
+    ensures output { out.new ≡ onto (without d.now x b) out.old }
 {
     put_header(out, t, k);
     let at = put_switches(d, s, x, out, 9);

@@ -1,7 +1,10 @@
 //! Prints level, parent's number and parent port of the switch with UID 2 in the description on standard input.
 #![tactic(auto)]
-use libc::{STDIN_FILENO, STDOUT_FILENO};
+
 use planner::Stand;
+use std::io;
+use std::io::Write;
+use streams::read_full;
 
 // The digit of a number below 10, else a question mark.
 fn digit(x: u8) -> u8 {
@@ -11,16 +14,14 @@ fn digit(x: u8) -> u8 {
     63
 }
 
-fn main() {
+fn main(rt: HostRuntime) -> io::Result<()> {
     let mut kept = [0u8; 2058];
-    let n = io::read_full(STDIN_FILENO, &mut kept);
+    let n = read_full(&mut rt.reader(), &mut kept)?;
     match planner::where_stands(&kept[..n], 2) {
         Stand::At(level, parent, port) => {
             let line = [digit(level), 32, digit(parent), 32, digit(port), 10];
-            io::write_all(STDOUT_FILENO, &line);
+            io::writer(&rt).write_all(&line)
         }
-        Stand::Refused(r, at) => {
-            io::write_all(STDOUT_FILENO, b"refused\n");
-        }
+        Stand::Refused(_, _) => io::writer(&rt).write_all(b"refused\n"),
     }
 }

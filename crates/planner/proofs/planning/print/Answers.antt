@@ -18,10 +18,10 @@ two-requires-in-Accepted c = omega (arith, (no_refusal _ _ c.check.ensures c.in-
 pub print_accepted-requires : goal.print_accepted-requires
 print_accepted-requires c = (no_refusal _ _ c.check.ensures c.in-Accepted.is, c.two.ensures, c.two-in-Accepted.ensures)
 
-pub returns-in-Refused-clause-value : goal.returns-in-Refused-clause-value
-returns-in-Refused-clause-value c =
-    (as_printed _ (refusal_printed _ _ c.check.ensures _ _ c.in-Refused.is c.number_of.ensures) c.args.out.now (c.refused_line.ensures.value, c.refused_line.ensures.out_after)).0
+pub returns-in-Refused-clause-answer : goal.returns-in-Refused-clause-answer
+returns-in-Refused-clause-answer c =
+    (as_printed _ (refusal_printed _ _ c.check.ensures _ _ c.in-Refused.is c.number_of.ensures) c.args.out.now (c.refused_line.ensures.answer, c.refused_line.ensures.output)).0
 
-pub returns-in-Refused-clause-out_after : goal.returns-in-Refused-clause-out_after
-returns-in-Refused-clause-out_after c =
-    (as_printed _ (refusal_printed _ _ c.check.ensures _ _ c.in-Refused.is c.number_of.ensures) c.args.out.now (c.refused_line.ensures.value, c.refused_line.ensures.out_after)).1
+pub returns-in-Refused-clause-output : goal.returns-in-Refused-clause-output
+returns-in-Refused-clause-output c =
+    (as_printed _ (refusal_printed _ _ c.check.ensures _ _ c.in-Refused.is c.number_of.ensures) c.args.out.now (c.refused_line.ensures.answer, c.refused_line.ensures.output)).1

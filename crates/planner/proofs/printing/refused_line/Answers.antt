@@ -9,5 +9,5 @@ put_line-requires c =
     let r = c.requires in
     (r.0, r.1, refusal_room c.args.number c.args.position _ r.0 r.1 (omega arith))
 
-pub returns-clause-out_after : goal.returns-clause-out_after
-returns-clause-out_after c = (written_onto c.put_line.ensures).1
+pub returns-clause-output : goal.returns-clause-output
+returns-clause-output c = (written_onto c.put_line.ensures).1

@@ -7,7 +7,7 @@ use Rattle.topology.proofs.editing.pull.Goals as goal
 pub returns-in-Refused : goal.returns-in-Refused
 returns-in-Refused c =
     let g = pull_refused _ _ _ _ c.check.ensures _ _ _ c.in-Refused.is in
-    record { result_value = g.0; out_after = g.1 }
+    record { answer = g.0; output = g.1 }
 
 pub two-s-requires : goal.two-s-requires
 two-s-requires c = omega (arith, (no_refusal _ _ c.check.ensures c.in_default.is).size)
@@ -21,7 +21,7 @@ seek-x-requires c = (c.two-s.ensures, omega (arith, (no_refusal _ _ c.check.ensu
 pub returns-then-s-x : goal.returns-then-s-x
 returns-then-s-x c =
     let g = pull_unknown _ _ _ _ c.check.ensures c.in_default.is _ _ c.two-s.ensures c.seek-x.ensures _ c.if-s-x.true in
-    record { result_value = g.0; out_after = g.1 }
+    record { answer = g.0; output = g.1 }
 
 pub cable_of-c-requires : goal.cable_of-c-requires
 cable_of-c-requires c = (sized _ _ _ (no_refusal _ _ c.check.ensures c.in_default.is) c.two-s.ensures c.two-l.ensures, c.two-l.ensures)
@@ -29,12 +29,12 @@ cable_of-c-requires c = (sized _ _ _ (no_refusal _ _ c.check.ensures c.in_defaul
 pub returns-then-l-c : goal.returns-then-l-c
 returns-then-l-c c =
     let g = pull_none _ _ _ _ c.check.ensures c.in_default.is _ _ c.two-s.ensures c.seek-x.ensures c.if-s-x.false _ _ _ c.cable_of-c.ensures c.two-l.ensures c.if-l-c.true in
-    record { result_value = g.0; out_after = g.1 }
+    record { answer = g.0; output = g.1 }
 
 pub returns-then-out-d : goal.returns-then-out-d
 returns-then-out-d c =
     let g = pull_little _ _ _ _ c.check.ensures c.in_default.is _ _ c.two-s.ensures c.seek-x.ensures c.if-s-x.false _ _ _ c.cable_of-c.ensures c.two-l.ensures c.if-l-c.false c.if-out-d.true in
-    record { result_value = g.0; out_after = g.1 }
+    record { answer = g.0; output = g.1 }
 
 pub write_without-requires : goal.write_without-requires
 write_without-requires c =
@@ -45,5 +45,5 @@ write_without-requires c =
 pub returns : goal.returns
 returns c =
     let g = pull_written _ _ _ _ c.check.ensures c.in_default.is _ _ c.two-s.ensures c.seek-x.ensures c.if-s-x.false _ _ _ c.cable_of-c.ensures c.two-l.ensures c.if-l-c.false c.if-out-d.false _ _
-    c.write_without.ensures.value c.write_without.ensures.out_after in
-    record { result_value = g.0; out_after = g.1 }
+    c.write_without.ensures.answer c.write_without.ensures.output in
+    record { answer = g.0; output = g.1 }

@@ -7,7 +7,7 @@ use Rattle.topology.proofs.editing.retire.Goals as goal
 pub returns-in-Refused : goal.returns-in-Refused
 returns-in-Refused c =
     let g = retire_refused _ _ _ _ c.check.ensures _ _ c.in-Refused.is in
-    record { result_value = g.0; out_after = g.1 }
+    record { answer = g.0; output = g.1 }
 
 pub two-s-requires : goal.two-s-requires
 two-s-requires c = omega (arith, (no_refusal _ _ c.check.ensures c.in_default.is).size)
@@ -21,12 +21,12 @@ seek-x-requires c = (c.two-s.ensures, omega (arith, (no_refusal _ _ c.check.ensu
 pub returns-then-s-x : goal.returns-then-s-x
 returns-then-s-x c =
     let g = retire_unknown _ _ _ _ c.check.ensures c.in_default.is _ _ c.two-s.ensures c.seek-x.ensures c.if-s-x.true in
-    record { result_value = g.0; out_after = g.1 }
+    record { answer = g.0; output = g.1 }
 
 pub returns-then-s-eq1 : goal.returns-then-s-eq1
 returns-then-s-eq1 c =
     let g = retire_only _ _ _ _ c.check.ensures c.in_default.is _ _ c.two-s.ensures c.seek-x.ensures c.if-s-x.false c.if-s-eq1.true in
-    record { result_value = g.0; out_after = g.1 }
+    record { answer = g.0; output = g.1 }
 
 pub staying-k-requires : goal.staying-k-requires
 staying-k-requires c = sized _ _ _ (no_refusal _ _ c.check.ensures c.in_default.is) c.two-s.ensures c.two-l.ensures
@@ -34,7 +34,7 @@ staying-k-requires c = sized _ _ _ (no_refusal _ _ c.check.ensures c.in_default.
 pub returns-then-out-s : goal.returns-then-out-s
 returns-then-out-s c =
     let g = retire_little _ _ _ _ c.check.ensures c.in_default.is _ _ c.two-s.ensures c.seek-x.ensures c.if-s-x.false c.if-s-eq1.false _ _ c.two-l.ensures c.staying-k.ensures.0 c.if-out-s.true in
-    record { result_value = g.0; out_after = g.1 }
+    record { answer = g.0; output = g.1 }
 
 pub write_without-requires : goal.write_without-requires
 write_without-requires c =
@@ -44,5 +44,5 @@ write_without-requires c =
 pub returns : goal.returns
 returns c =
     let g = retire_written _ _ _ _ c.check.ensures c.in_default.is _ _ c.two-s.ensures c.seek-x.ensures c.if-s-x.false c.if-s-eq1.false _ _ c.two-l.ensures c.staying-k.ensures.0 c.if-out-s.false _ _
-    c.write_without.ensures.value c.write_without.ensures.out_after in
-    record { result_value = g.0; out_after = g.1 }
+    c.write_without.ensures.answer c.write_without.ensures.output in
+    record { answer = g.0; output = g.1 }

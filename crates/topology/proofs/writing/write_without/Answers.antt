@@ -11,4 +11,4 @@ put_cables-requires c =
 pub returns : goal.returns
 returns c =
     let w = without_written c.args.d.now c.args.x c.args.b _ _ _ _ _ _ _ _ _ _ c.requires.0.switches c.requires.1 c.requires.2 c.requires.4 c.requires.6 c.put_header.ensures c.put_switches-at.ensures c.put_cables.ensures in
-    record { value = w.0; out_after = w.1 }
+    record { answer = w.0; output = w.1 }
