@@ -1,9 +1,9 @@
 // The channel to each switch's parent.
 ghost use Rattle.std.specs.Prelude.{◌≡◌, ℕ, suc, ◌<◌, ◌≤◌, slice_index};
 ghost use Rattle.topology_rules.specs.Net.{Net};
-ghost use Rattle.planner_rules.specs.Tree.{level as levelOf, parent_channel};
+ghost use Rattle.planner_rules.specs.Tree.{level as level_of, parent_channel};
 ghost use Rattle.planner.specs.Wiring.{Below, Row, Wires, Tells};
-ghost use Rattle.planner.specs.Steps.{leads_up, comes_before, improves as improvesBy, chosen_over};
+ghost use Rattle.planner.specs.Steps.{leads_up, comes_before, improves as improves_by, chosen_over};
 
 use crate::rising::{long, precedes};
 use crate::tree::wide;
@@ -44,7 +44,7 @@ fn improves(
     ch: usize,
 ) -> bool
     requires { (channels ≤ 768) × (kept ≤ channels) × (ch < channels) × Below 64 channels target.now }
-    ensures { result ≡ improvesBy uid.now target.now port.now channels kept ch }
+    ensures { result ≡ improves_by uid.now target.now port.now channels kept ch }
 {
     if kept == channels {
         return true;
@@ -84,7 +84,7 @@ pub fn parents(
     channels: usize,
 ) -> [u16; 64]
     requires { (channels ≤ 768) × Below 64 channels source.now × Below 64 channels target.now }
-    ensures { Below (suc channels) 64 result × ((n : Net) (s : ℕ) → Wires n s channels source.now target.now → Tells s uid.now n.uid → Tells s level.now (levelOf n) → Tells channels port.now n.out_port → Tells s result (parent_channel n)) }
+    ensures { Below (suc channels) 64 result × ((n : Net) (s : ℕ) → Wires n s channels source.now target.now → Tells s uid.now n.uid → Tells s level.now (level_of n) → Tells channels port.now n.out_port → Tells s result (parent_channel n)) }
 {
     let none = channels as u16;
     let mut best = [none; 64];

@@ -1,7 +1,7 @@
 // Levels, by rounds from all roots at once.
 ghost use Rattle.std.specs.Prelude.{◌≡◌, false, cond, ℕ, ◌<◌, ◌≤◌, nat_eq, slice_index, length};
 ghost use Rattle.topology_rules.specs.Net.{Net};
-ghost use Rattle.planner_rules.specs.Tree.{root as rootOf, level as levelOf};
+ghost use Rattle.planner_rules.specs.Tree.{root as root_of, level as level_of};
 ghost use Rattle.planner.specs.Wiring.{Below, Wires, Tells};
 ghost use Rattle.planner.specs.Steps.{in_turn, settled, settled_over};
 
@@ -75,7 +75,7 @@ pub fn levels(
     channels: usize,
 ) -> [u8; 64]
     requires { (switches ≤ 64) × (channels ≤ 768) × Below 64 channels source.now × Below 64 channels target.now }
-    ensures { (n : Net) → Wires n switches channels source.now target.now → Tells switches root.now (rootOf n) → Tells switches result (levelOf n) }
+    ensures { (n : Net) → Wires n switches channels source.now target.now → Tells switches root.now (root_of n) → Tells switches result (level_of n) }
 {
     let mut level = first_levels(root, switches);
     let last = switches as u8;
