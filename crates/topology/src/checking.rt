@@ -9,6 +9,9 @@ use super::reading::{mark_differs, two};
 use super::switches::switch_record;
 use super::{Checked, Reason, Topology};
 
+// The mark, the version and the two counts.
+const HEADER: usize = 9;
+
 // 4: no switch, or too many.
 fn bad_count(s: usize) -> bool
     ensures { result ≡ bad_count s }
@@ -53,7 +56,7 @@ fn cables(d: &[u8], s: usize, l: usize) -> Checked
 pub fn check(d: &[u8]) -> Checked
     ensures { verdict_of result ≡ verdict d.now }
 {
-    if d.len() < 9 {
+    if d.len() < HEADER {
         return Checked::Refused(Reason::Short, 0);
     }
     if mark_differs(d) {
