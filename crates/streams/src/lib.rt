@@ -1,14 +1,15 @@
 //! Reading from a stream into a lent buffer.
 #![tactic(auto)]
 
-ghost use Rattle.std.specs.Prelude.{◌≤◌, length, IfOk};
+ghost use Rattle.std.specs.Prelude.{◌≡◌, ◌≤◌, length, IfOk, OnErr};
 
 use std::io;
 use std::io::Read;
 
-/// Reads until the buffer is full or the input ends: how many bytes then stand at the buffer's start.
+/// Reads until the buffer is full or the input ends: how many bytes then stand at the buffer's start. After an error, which is the reader's, it may hold part of the input.
 pub fn read_full<R: Read>(reader: &mut R, buffer: &mut [u8]) -> io::Result<usize>
-    ensures { IfOk result (λ n. n ≤ length buffer.new) }
+    ensures ok { IfOk result (λ n. n ≤ length buffer.new) }
+    ensures err { OnErr result (length buffer.new ≡ length buffer.old) }
 {
     let mut done = 0;
     while done < buffer.len() {
