@@ -20,5 +20,5 @@ pub returns : goal.returns
 returns c =
     let first = c.put_line-switches.ensures in
     let second = c.switch_lines-links.ensures in
-    let (value, output) = plan_written _ _ _ _ _ _ _ c.requires.2 (omega arith) first second c.link_lines.ensures in
-    record { answer = value; output = output }
+    let (answer, output) = plan_written _ _ _ _ _ _ _ c.requires.2 (omega arith) first second c.link_lines.ensures in
+    record { answer = answer; output = output }
