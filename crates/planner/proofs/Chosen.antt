@@ -1,173 +1,167 @@
 -- The best channel so far, over the channels in turn.
-use Prim.Native.Nat.{ℕ, suc, ◌<◌}
-use mathlib.Core.Path.{◌≡◌, sym, ap, subst, ◌∙◌}
-use mathlib.Core.Logic.{◌⊎◌, inl, inr}
+use Prim.Native.Nat.{ℕ, suc, ◌+◌, ◌*◌, ◌<◌}
+use mathlib.Core.Path.{◌≡◌, refl, sym, subst, ◌∙◌}
+use mathlib.Core.Logic.{inl, inr}
 use mathlib.Core.List.{List}
-use mathlib.Core.Bool.{Bool, true, false, not}
-use native.Mathlib.Omega.{arith}
+use mathlib.Core.Bool.{Bool, not}
 use native.Mathlib.Numerals.{add-one}
+use native.Mathlib.Omega.{arith}
 use lib.Dec.{T, eqb, eqb→eq, eqb_refl}
 use lib.ListN.{get_or, set, length, length-set, replicate, length-replicate, get_or-replicate}
+use lib.Seq.{get_or-set_same, get_or-set_other}
+use borrow.Author.Tests.{lt-ltb, le-ltb}
+use Rattle.std.specs.Prelude.{Option, Some, None, IfSome}
 use Rattle.topology_rules.specs.Count.{both, any, first}
-use Rattle.topology_rules.specs.Net.{Net, WellFormed, target}
-use Rattle.planner_rules.specs.Tree.{level, rises, preferred, parent_channel}
-use Rattle.planner.specs.Wiring.{Wires, Tells}
-use Rattle.planner.specs.Steps.{in_turn, leads_up, comes_before, improves, chosen_over}
-use Rattle.topology_rules.proofs.Tests.{decide, split, both_T, T_both, either_T, T_either, eq→eqb, choose_cond}
+use Rattle.topology_rules.specs.Format.{cable_count}
+use Rattle.topology_rules.specs.Net.{Net, WellFormed, net_of}
+use Rattle.topology_rules.specs.Accepted.{Accepted}
+use Rattle.planner_rules.specs.Tree.{rises, preferred, parent_channel}
+use Rattle.planner.specs.Choices.{leads_up, improves, chosen_over, parent_of, Channels, Finds}
+use Rattle.topology_rules.proofs.Tests.{decide, split, both_T, T_both, eq→eqb, choose_cond}
 use Rattle.topology_rules.proofs.Searches.{First, below_cases, first_found, least_high}
-use Rattle.planner.proofs.Steps.{set_cases, turn_keeps}
-use Rattle.planner.proofs.Wires.{from_low, to_low}
+use Rattle.topology_rules.proofs.Soundness.{well_formed}
 use Rattle.planner_rules.proofs.Parents.{rises_T, preferred_irreflexive, preferred_transitive, first_parent, parent_is, one_parent}
 
--- Of the numbers below k that pass, j is one with none before it, or is c where none passes.
-module _ (f : ℕ → Bool) (R : ℕ → ℕ → Bool) where
-  abbrev pub Best : ℕ → ℕ → ℕ → Type 0
-  Best c k j = ((j ≡ c) × ((u : ℕ) → u < k → T (f u) → ⊥)) ⊎ First f R k j
-
-  -- k does not pass
-  best_pass : (c k j : ℕ) → Best c k j → (T (f k) → ⊥) → Best c (suc k) j
-  best_pass c k j (inl (e, none)) d = inl (e, λ u h t. elim (below_cases u k h) [ inl q ↦ d (rw q at t) | inr q ↦ none u q t ])
-  best_pass c k j (inr (l, t, none)) d = inr (omega arith, t, λ u h p r. elim (below_cases u k h) [ inl q ↦ d (rw q at p) | inr q ↦ none u q p r ])
-
-  -- it passes, and does not come before j
-  best_keep : (c k j : ℕ) → Best c k j → (j ≡ c → ⊥) → (T (R k j) → ⊥) → Best c (suc k) j
-  best_keep c k j (inl (e, none)) d m = absurd (d e)
-  best_keep c k j (inr (l, t, none)) d m = inr (omega arith, t, λ u h p r. elim (below_cases u k h) [ inl q ↦ m (rw q at r) | inr q ↦ none u q p r ])
-
-  module _ (irreflexive : (a : ℕ) → T (R a a) → ⊥) (transitive : (a b c : ℕ) → T (R a b) → T (R b c) → T (R a c)) where
-    -- it passes, and j is none or comes after it
-    best_take : (c k j : ℕ) → k < c → Best c k j → T (f k) → (j ≡ c) ⊎ T (R k j) → Best c (suc k) k
-    best_take c k j small b t m = inr (omega arith, t, λ u h p r. elim (below_cases u k h) [ inl q ↦ irreflexive k (rw q at r) | inr q ↦ go b m u q p r ])
-      where
-        go : Best c k j → (j ≡ c) ⊎ T (R k j) → (u : ℕ) → u < k → T (f u) → T (R u k) → ⊥
-        go (inl (e, none)) q u h p r = none u h p
-        go (inr (l, s, none)) (inl e) u h p r = absurd (omega arith)
-        go (inr (l, s, none)) (inr q) u h p r = none u h p (transitive u k j r q)
-
-  first_none : (k : ℕ) → ((u : ℕ) → u < k → T (f u) → ⊥) → first k f R ≡ k
-  unfolding first
-  first_none k none = elim (split (first k f R) k) [
-    | inl h ↦ absurd (none (first k f R) h (first_found f R k h).1)
-    | inr h ↦ omega (arith, least_high (λ x. both (f x) (not (any k (λ y. both (f y) (R y x))))) k)
-  ]
-
--- what a step leaves, by its two tests
-module _ (u l a b p : List ℕ) (c ch : ℕ) (f : List ℕ) where
-  pub step_none : leads_up l a b ch ≡ false → f ≡ chosen_over u l a b p c ch f
-  unfolding chosen_over
-  step_none e = rw e
-
-  module _ (x k : ℕ) (xe : x ≡ get_or a ch 0) (ke : k ≡ get_or f x 0) (leads : leads_up l a b ch ≡ true) where
-    pub step_taken : improves u b p c k ch ≡ true → set f x ch ≡ chosen_over u l a b p c ch f
-    unfolding chosen_over
-    step_taken e = let d = rw (ke, xe) at e in rw (xe, leads, d)
-
-    pub step_left : improves u b p c k ch ≡ false → f ≡ chosen_over u l a b p c ch f
-    unfolding chosen_over
-    step_left e = let d = rw (ke, xe) at e in rw (leads, d)
-
 module _ (n : Net) where
-  -- after i channels
-  pub record Chosen (i : ℕ) (g : List ℕ) : Type 0 where
-    pub whole : length g ≡ 64
-    pub each : (j : ℕ) → j < n.switches → Best (rises n j) (preferred n) n.channels i (get_or g j 0)
+  module _ (f : ℕ → Bool) where
+    -- Of the channels below k that pass, the one kept has none before it; none is kept where none passes.
+    abbrev pub Best : ℕ → Option ℕ → Type 0
+    Best k None = (u : ℕ) → u < k → T (f u) → ⊥
+    Best k (Some j) = First f (preferred n) k j
 
-module _ (n : Net) (w : WellFormed n) where
-  -- the best of all channels is the parent's
-  parent_best : (s v : ℕ) → s < n.switches → Best (rises n s) (preferred n) n.channels n.channels v → v ≡ parent_channel n s
-  unfolding parent_channel
-  parent_best s v h (inl (e, none)) = e ∙ sym (first_none (rises n s) (preferred n) n.channels none)
-  parent_best s v h (inr f) =
-      let p = first_parent n s v f in
-      one_parent n w s v (parent_channel n s) p (parent_is n w s h (omega (arith, p.rising.lower)))
+    -- channel k does not pass
+    best_pass : (k : ℕ) (kept : Option ℕ) → Best k kept → (T (f k) → ⊥) → Best (suc k) kept
+    best_pass k None none d = λ u h t. elim (below_cases u k h) [ inl q ↦ d (rw q at t) | inr q ↦ none u q t ]
+    best_pass k (Some j) (l, t, none) d = (omega arith, t, λ u h p r. elim (below_cases u k h) [ inl q ↦ d (rw q at p) | inr q ↦ none u q p r ])
 
-module _ (n : Net) (s c : ℕ) (a b : List ℕ) (w : Wires n s c a b) (u l p : List ℕ) (uids : Tells s u n.uid) (levels : Tells s l (level n)) (ports : Tells c p n.out_port) where
-  abbrev wf : WellFormed n
-  wf = w.formed
+    -- it passes, and does not improve
+    best_keep : (k : ℕ) (kept : Option ℕ) → Best k kept → (T (improves n kept k) → ⊥) → Best (suc k) kept
+    best_keep k None none d = absurd (d tt)
+    best_keep k (Some j) (l, t, none) d = (omega arith, t, λ u h p r. elim (below_cases u k h) [ inl q ↦ d (rw q at r) | inr q ↦ none u q p r ])
 
-  leads_told : (ch : ℕ) → ch < c → leads_up l a b ch ≡ eqb (suc (level n (target n ch))) (level n (n.source ch))
-  leads_told ch h = rw (levels (get_or b ch 0) (to_low n s c a b w ch h), levels (get_or a ch 0) (from_low n s c a b w ch h), w.from ch h, w.to ch h, add-one)
-
-  comes_told : (x y : ℕ) → x < c → y < c → comes_before u b p x y ≡ preferred n x y
-  comes_told x y h k = rw (uids (get_or b x 0) (to_low n s c a b w x h), uids (get_or b y 0) (to_low n s c a b w y k), w.to x h, w.to y k, ports x h, ports y k)
-
-  module _ (i : ℕ) (h : i < c) (g : List ℕ) (q : Chosen n i g) where
-    abbrev x : ℕ
-    x = get_or a i 0
-
-    x_low : x < n.switches
-    x_low = omega (arith, from_low n s c a b w i h, w.switches)
-
-    abbrev kept : ℕ
-    kept = get_or g x 0
-
-    leads_T : T (leads_up l a b i) → T (rises n x i)
-    leads_T t = rw (w.from i h) (T_both (eqb (n.source i) (n.source i)) _ (eqb_refl (n.source i)) (rw (leads_told i h) at t))
-
-    T_leads : (j : ℕ) → T (rises n j i) → (j ≡ x) × T (leads_up l a b i)
-    T_leads j t =
-        let r = rises_T n j i (omega (arith, w.channels)) t in
-        (sym r.starts ∙ sym (w.from i h), rw (leads_told i h) (eq→eqb _ _ (rw (← r.starts) at r.lower)))
-
-    -- channel i takes the place of the one kept exactly if that is none or comes after it
-    better : T (improves u b p c kept i) → (kept ≡ n.channels) ⊎ T (preferred n i kept)
-    better t = elim (q.each x x_low) [
-      | inl e ↦ inl e.0
-      | inr e ↦ elim (either_T (eqb kept c) (comes_before u b p i kept) t) [
-        | inl d ↦ inl (eqb→eq kept c d ∙ sym w.channels)
-        | inr d ↦ inr (rw (comes_told i kept h (omega (arith, e.0))) at d)
-      ]
-    ]
-
-    worse : (T (improves u b p c kept i) → ⊥) → (kept ≡ n.channels → ⊥) × (T (preferred n i kept) → ⊥)
-    worse d = (
-      none,
-      λ t. d (T_either (eqb kept c) (comes_before u b p i kept) (inr (elim (q.each x x_low) [
-        | inl e ↦ absurd (none e.0)
-        | inr e ↦ rw (comes_told i kept h (omega (arith, e.0))) t
-      ]))),
+    -- it passes, and improves
+    best_take : (k : ℕ) (kept : Option ℕ) → Best k kept → T (f k) → T (improves n kept k) → Best (suc k) (Some k)
+    best_take k None none t m =
+        (omega arith, t, λ u h p r. elim (below_cases u k h) [ inl q ↦ preferred_irreflexive n k (rw q at r) | inr q ↦ none u q p ])
+    best_take k (Some j) (l, s, none) t m = (
+      omega arith,
+      t,
+      λ u h p r. elim (below_cases u k h) [ inl q ↦ preferred_irreflexive n k (rw q at r) | inr q ↦ none u q p (preferred_transitive n u k j r m) ],
     )
-      where
-        none : kept ≡ n.channels → ⊥
-        none e = d (T_either (eqb kept c) (comes_before u b p i kept) (inl (eq→eqb kept c (e ∙ w.channels))))
 
-    chosen_step : Chosen n (suc i) (chosen_over u l a b p c i g)
-    unfolding chosen_over
-    chosen_step = choose_cond (Chosen n (suc i)) (both (leads_up l a b i) (improves u b p c kept i)) (set g x i) g
-        (λ t. let (r, m) = both_T (leads_up l a b i) (improves u b p c kept i) t in taken (leads_T r) (better m))
-        (λ d. left (λ j r. let (e, m) = T_leads j r in worse (λ t. d (T_both (leads_up l a b i) (improves u b p c kept i) m t))))
-      where
-        taken : T (rises n x i) → (kept ≡ n.channels) ⊎ T (preferred n i kept) → Chosen n (suc i) (set g x i)
-        taken r m = record {
-          whole = length-set g x i ∙ q.whole;
-          each = λ j k. elim (set_cases g x j i (omega (arith, q.whole, x_low, wf.few_switches))) [
-            | inl e ↦ rw (e.1, e.0) (best_take (rises n x) (preferred n) (preferred_irreflexive n) (preferred_transitive n) n.channels i kept (omega (arith, w.channels)) (q.each x x_low) r m)
-            | inr e ↦ rw e.1 (best_pass (rises n j) (preferred n) n.channels i (get_or g j 0) (q.each j k) (λ t. e.0 (T_leads j t).0))
-          ];
-        }
+    -- one that is kept is among those passed
+    best_there : (k : ℕ) (kept : Option ℕ) → Best k kept → IfSome kept (λ ch. ch < k)
+    best_there k None none = tt
+    best_there k (Some j) b = b.0
 
-        left : ((j : ℕ) → T (rises n j i) → (kept ≡ n.channels → ⊥) × (T (preferred n i kept) → ⊥)) → Chosen n (suc i) g
-        left d = record {
-          whole = q.whole;
-          each = λ j k. elim (decide (rises n j i)) [
-            | inl t ↦ let z = ap (λ y. get_or g y 0) (T_leads j t).0 in
-                best_keep (rises n j) (preferred n) n.channels i (get_or g j 0) (q.each j k) (λ e. (d j t).0 (sym z ∙ e)) (λ m. (d j t).1 (rw z at m))
-            | inr t ↦ best_pass (rises n j) (preferred n) n.channels i (get_or g j 0) (q.each j k) t
-          ];
-        }
+  -- after i channels
+  pub record Chosen (i : ℕ) (g : List (Option ℕ)) : Type 0 where
+    pub whole : length g ≡ 64
+    pub each : (s : ℕ) → s < n.switches → Best (rises n s) i (get_or g s None)
 
-  pub chosen_parents : (g : List ℕ) → g ≡ in_turn c (chosen_over u l a b p c) (replicate 64 c) → Tells s g (parent_channel n)
-  chosen_parents g e j h = parent_best n wf j (get_or g j 0) k (rw e (chosen.each j k))
-    where
-      k : j < n.switches
-      k = omega (arith, w.switches)
+  -- a channel that leads up rises from the switch that it leaves
+  leads_rises : (ch : ℕ) → T (leads_up n ch) → T (rises n (n.source ch) ch)
+  leads_rises ch t = T_both (eqb (n.source ch) (n.source ch)) _ (eqb_refl (n.source ch)) t
 
-      start : Chosen n 0 (replicate 64 c)
-      start = record {
-        whole = length-replicate {A = ℕ} 64 c;
-        each = λ j k. inl (get_or-replicate 64 j c 0 (omega (arith, wf.few_switches)) ∙ sym w.channels, λ x m. absurd (omega arith));
+  -- and from no other
+  rises_leads : (s ch : ℕ) → ch < n.channels → T (rises n s ch) → (n.source ch ≡ s) × T (leads_up n ch)
+  rises_leads s ch h t = let r = rises_T n s ch h t in (r.starts, eq→eqb _ _ (rw (← r.starts) at r.lower))
+
+  module _ (w : WellFormed n) where
+    -- none is kept before the first
+    chosen_start : Chosen 0 (replicate 64 None)
+    chosen_start = record {
+      whole = length-replicate {A = Option ℕ} 64 None;
+      each = λ s h. rw (get_or-replicate {A = Option ℕ} 64 s None None (omega (arith, w.few_switches))) (λ u l. absurd (omega arith));
+    }
+
+    module _ (i : ℕ) (h : i < n.channels) (g : List (Option ℕ)) (c : Chosen i g) where
+      -- the switch that channel i leaves, and what it keeps
+      abbrev x : ℕ
+      x = n.source i
+
+      abbrev kept : Option ℕ
+      kept = get_or g x None
+
+      -- it is there
+      x_there : x < n.switches
+      x_there = w.from_a_switch i h
+
+      -- the channel leads up and improves
+      taken : T (leads_up n i) → T (improves n kept i) → Chosen (suc i) (set g x (Some i))
+      taken t m = record {
+        whole = length-set g x (Some i) ∙ c.whole;
+        each = λ s k. elim (decide (eqb s x)) [
+          | inl e ↦ rw (eqb→eq s x e, get_or-set_same g x (Some i) None (omega (arith, c.whole, x_there, w.few_switches)))
+              (best_take (rises n x) i kept (c.each x x_there) (leads_rises i t) m)
+          | inr d ↦ let ne : s ≡ x → ⊥ = λ e. d (eq→eqb s x e) in
+              rw (get_or-set_other g x s (Some i) None ne) (best_pass (rises n s) i (get_or g s None) (c.each s k) (λ r. ne (sym (rises_leads s i h r).0)))
+        ];
       }
 
-      chosen : Chosen n n.channels (in_turn c (chosen_over u l a b p c) (replicate 64 c))
-      chosen = subst (λ m. Chosen n m (in_turn c (chosen_over u l a b p c) (replicate 64 c))) (sym w.channels)
-          (turn_keeps (chosen_over u l a b p c) (Chosen n) c (replicate 64 c) start (λ i g h q. chosen_step i h g q))
+      -- it does not
+      left : (T (leads_up n i) → T (improves n kept i) → ⊥) → Chosen (suc i) g
+      left d = record {
+        whole = c.whole;
+        each = λ s k. elim (decide (rises n s i)) [
+          | inl r ↦ let (e, t) = rises_leads s i h r in
+              best_keep (rises n s) i (get_or g s None) (c.each s k) (λ m. d t (rw e m))
+          | inr r ↦ best_pass (rises n s) i (get_or g s None) (c.each s k) r
+        ];
+      }
+
+      -- one step
+      chosen_step : Chosen (suc i) (chosen_over n i g)
+      chosen_step = choose_cond (Chosen (suc i)) (both (leads_up n i) (improves n kept i)) (set g x (Some i)) g
+          (λ t. let (r, m) = both_T (leads_up n i) (improves n kept i) t in taken r m)
+          (λ d. left (λ t m. d (T_both (leads_up n i) (improves n kept i) t m)))
+
+      -- what is kept is a channel
+      chosen_channel : (s : ℕ) → s < n.switches → IfSome (get_or g s None) (λ ch. ch < n.channels)
+      chosen_channel s k = go (get_or g s None) (best_there (rises n s) i (get_or g s None) (c.each s k))
+        where
+          go : (kept : Option ℕ) → IfSome kept (λ ch. ch < i) → IfSome kept (λ ch. ch < n.channels)
+          go None l = tt
+          go (Some j) l = omega arith
+
+    -- the best of all channels is the parent's
+    best_parent : (s : ℕ) (v : Option ℕ) → s < n.switches → Best (rises n s) n.channels v → v ≡ parent_of n s
+    unfolding parent_channel first
+    best_parent s None h none = rw (first_none n.channels none, le-ltb n.channels n.channels (omega arith)) refl
+      where
+        -- where none passes, the rules find none
+        first_none : (k : ℕ) → ((u : ℕ) → u < k → T (rises n s u) → ⊥) → first k (rises n s) (preferred n) ≡ k
+        first_none k none = elim (split (first k (rises n s) (preferred n)) k) [
+          | inl l ↦ absurd (none _ l (first_found (rises n s) (preferred n) k l).1)
+          | inr l ↦ omega (arith, least_high (λ x. both (rises n s x) (not (any k (λ y. both (rises n s y) (preferred n y x))))) k)
+        ]
+    best_parent s (Some ch) h f =
+        let p = first_parent n s ch f in
+        let e : parent_channel n s ≡ ch = one_parent n w s (parent_channel n s) ch (parent_is n w s h (omega (arith, p.rising.lower))) p in
+        rw (e, lt-ltb ch n.channels p.rising.is_live) refl
+
+-- The channels of an accepted description.
+module _ (d : List ℕ) (a : Accepted d) where
+  -- its net is well formed
+  abbrev w : WellFormed (net_of d)
+  w = well_formed d a
+
+  -- before the first
+  pub none_chosen : Chosen (net_of d) 0 (replicate 64 None)
+  none_chosen = chosen_start (net_of d) w
+
+  module _ (i : ℕ) (h : i < 2 * cable_count d) (g : List (Option ℕ)) (c : Chosen (net_of d) i g) where
+    -- what is kept are channels
+    pub kept_channels : Channels d g
+    unfolding net_of
+    kept_channels = chosen_channel (net_of d) w i h g c
+
+    -- one more
+    pub chosen_next : (f : List (Option ℕ)) → f ≡ chosen_over (net_of d) i g → Chosen (net_of d) (i + 1) f
+    unfolding net_of
+    chosen_next f e = subst (λ k. Chosen (net_of d) k f) (sym (add-one i)) (rw e (chosen_step (net_of d) w i h g c))
+
+  -- after the last
+  pub all_chosen : (i : ℕ) (g : List (Option ℕ)) → i ≡ 2 * cable_count d → Chosen (net_of d) i g → Finds d g
+  unfolding net_of
+  all_chosen i g e c s h = best_parent (net_of d) w s (get_or g s None) h (rw e at (c.each s h))

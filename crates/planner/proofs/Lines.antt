@@ -1,74 +1,63 @@
--- Lines and the plan, as the pieces that are written one after the other.
-use mathlib.Core.Path.{◌≡◌, refl, sym, ◌∙◌}
-use mathlib.Core.List.{List, [], ◌∷◌, ◌++◌}
-use Prim.Native.Nat.{ℕ, ◌+◌, ◌-◌, ◌≤◌, ◌<◌}
+-- A line, field by field.
+use mathlib.Core.Path.{◌≡◌, sym, ap, ◌∙◌}
+use mathlib.Core.List.{List, [], ◌∷◌, ◌++◌, append_assoc}
+use Prim.Native.Nat.{ℕ, ◌+◌, ◌^◌, ◌≤◌, ◌<◌}
 use native.Mathlib.Omega.{arith}
-use lib.ListN.{length, get_or, length-append}
-use Rattle.topology_rules.specs.Count.{tabulate}
-use Rattle.topology_rules.specs.Answers.{onto}
-use Rattle.topology_rules.specs.Edit.{records}
-use Rattle.topology.specs.Inside.{Written}
-use Rattle.topology.proofs.Pieces.{written_onto}
-use Rattle.planner_rules.specs.Printed.{space, newline, plan_word, switch_word, refused_word, decimal, hex, fields, line}
+use lib.ListN.{get_or, length, drop, length-append}
+use Rattle.std.proofs.Common.{map}
+use Rattle.std.proofs.lemmas.List.{at_drop_more, at_drop_all}
+use Rattle.planner_rules.specs.Printed.{space, newline, refused_word, decimal, fields, line}
 use Rattle.planner_rules.proofs.Digits.{decimal_length}
-use Rattle.planner.specs.Text.{switch_text, link_text, plan_from}
-use Rattle.planner.proofs.Following.{room_first, room_after, written_both}
+use Rattle.planner.specs.Lines.{field_text}
+use Rattle.planner.specs.declared.printing.Field.{Field}
+use Rattle.planner.specs.declared.printing.Field.TheVariants.{Number}
 
--- the last two fields of a line, and the first two
-pub last_fields : (f g : List ℕ) → fields (f ∷ g ∷ []) ≡ (space ∷ f) ++ ((space ∷ g) ++ newline ∷ [])
-unfolding fields
-last_fields f g = refl
+-- A loop over the fields of a line: of all that there will be, t is written, and the fields from the i-th on are left.
+module _ (fs : List Field) (i : ℕ) (t all : List ℕ) where
+  abbrev from_field : List Field → List ℕ
+  from_field l = fields (map field_text l)
 
-pub first_fields : (w f g : List ℕ) (fs : List (List ℕ)) → line w (f ∷ g ∷ fs) ≡ w ++ ((space ∷ f) ++ ((space ∷ g) ++ fields fs))
-unfolding fields
-first_fields w f g fs = refl
+  abbrev this : List ℕ
+  this = space ∷ field_text (get_or fs i (Number 0))
+
+  abbrev later : List ℕ
+  later = from_field (drop (i + 1) fs)
+
+  module _ (whole : t ++ from_field (drop i fs) ≡ all) where
+    -- the field at i comes next, then those after it
+    more : i < length fs → t ++ (this ++ later) ≡ all
+    unfolding fields
+    more h = ap (λ l. t ++ l) (sym (at_drop_more from_field fs i (Number 0) h)) ∙ whole
+
+    -- there is room for it
+    pub field_room : i < length fs → length all ≤ 5452 → length t + length this ≤ 5452
+    field_room h room = omega (arith, ap length (more h), length-append t (this ++ later), length-append this later)
+
+    -- one field more
+    pub field_next : i < length fs → {s : List ℕ} → s ≡ t ++ this → s ++ later ≡ all
+    field_next h e = ap (λ l. l ++ later) e ∙ append_assoc t this later ∙ more h
+
+    -- where no field is left, the newline comes next
+    last : length fs ≤ i → t ++ newline ∷ [] ≡ all
+    unfolding fields
+    last h = ap (λ l. t ++ l) (sym (at_drop_all from_field fs i h)) ∙ whole
+
+    -- there is room for it
+    pub end_room : length fs ≤ i → length all ≤ 5452 → length t < 5452
+    end_room h room = omega (arith, ap length (last h), length-append t (newline ∷ []))
+
+    -- all is written
+    pub end_line : length fs ≤ i → {s : List ℕ} → s ≡ t ++ newline ∷ [] → s ≡ all
+    end_line h e = e ∙ last h
+
+-- o and v fit together
+pub room_both : (o v : List ℕ) → length o + length v ≤ 5452 → length (o ++ v) ≤ 5452
+room_both o v room = omega (arith, length-append o v)
 
 -- a refusal is short
-pub refusal_room : (number position n : ℕ) → number < 1000 → position < 1000 → n ≡ 5452 → 0 + length (line refused_word (decimal number ∷ decimal position ∷ [])) ≤ n
+pub refusal_room : (number position : ℕ) → number < 2 ^ 16 → position < 2 ^ 16 → length (line refused_word (decimal number ∷ decimal position ∷ [])) ≤ 5452
 unfolding fields
-refusal_room number position n h g e =
-    let f = decimal number in
-    let k = decimal position in
-    omega (arith, decimal_length 3 number (omega arith) h, decimal_length 3 position (omega arith) g, length-append f (space ∷ k ++ newline ∷ []), length-append k (newline ∷ []))
-
--- a switch's line, its number being one more than its place in the arrays
-pub switch_reads : (uids levels parents : List ℕ) (i : ℕ)
-    → switch_text uids levels parents (i + 1) ≡ line switch_word (decimal (i + 1) ∷ hex 12 (get_or uids i 0) ∷ decimal (get_or levels i 0) ∷ decimal (get_or parents i 0) ∷ [])
-switch_reads uids levels parents i = let e : i + 1 - 1 ≡ i = omega arith in rw e refl
-
--- The plan: its first line, the switches' lines, the cables' lines.
-module _ (s l : ℕ) (uids levels parents ups o : List ℕ) (room : length (plan_from s l uids levels parents ups) ≤ 5452) (full : length o ≡ 5452) where
-  abbrev heading : List ℕ
-  heading = line plan_word (decimal s ∷ decimal l ∷ [])
-
-  abbrev switches : List ℕ
-  switches = records (switch_text uids levels parents) (tabulate s 1 (λ i. i))
-
-  abbrev links : List ℕ
-  links = records (link_text ups) (tabulate l 0 (λ i. i))
-
-  whole : 0 + length (heading ++ switches ++ links) ≤ length o
-  unfolding plan_from
-  whole = omega arith
-
-  both : 0 + length (heading ++ switches) ≤ length o
-  both = room_first (heading ++ switches) links _ _ whole
-
-  pub heading_room : 0 + length heading ≤ length o
-  heading_room = room_first heading switches _ _ both
-
-  module _ {x : List ℕ} {b : ℕ} (first : Written o 0 heading x b) where
-    pub switches_room : length x ≡ 5452 → b + length switches ≤ length x
-    switches_room e = room_after o heading switches 0 both first (e ∙ sym full)
-
-    module _ {y : List ℕ} {e : ℕ} (second : Written x b switches y e) where
-      then : Written o 0 (heading ++ switches) y e
-      then = written_both o heading switches 0 both first second
-
-      pub links_room : length y ≡ 5452 → e + length links ≤ length y
-      links_room h = room_after o (heading ++ switches) links 0 whole then (h ∙ sym full)
-
-      pub plan_written : {z : List ℕ} {end : ℕ} → Written y e links z end
-          → (end ≡ length (plan_from s l uids levels parents ups)) × (z ≡ onto (plan_from s l uids levels parents ups) o)
-      unfolding plan_from
-      plan_written third = written_onto (written_both o (heading ++ switches) links 0 whole then third)
+refusal_room number position h g =
+    let a = decimal number in
+    let b = decimal position in
+    omega (arith, decimal_length 5 number (omega arith) (omega arith), decimal_length 5 position (omega arith) (omega arith), length-append a (space ∷ b ++ newline ∷ []), length-append b (newline ∷ []))

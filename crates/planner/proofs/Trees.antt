@@ -1,63 +1,95 @@
--- What the tree's lists tell of where a switch stands.
-use Prim.Native.Nat.{ℕ, ◌≤◌, ◌<◌}
-use mathlib.Core.Path.{◌≡◌, refl, ap, ◌∙◌}
+-- What a tree's places tell: r is the description as it was read, d as it is seen.
+use Prim.Native.Nat.{ℕ, ◌*◌, ◌<◌}
+use mathlib.Core.Path.{◌≡◌, refl, sym, ap, ◌∙◌}
 use mathlib.Core.List.{List}
-use native.Mathlib.Omega.{arith}
-use lib.ListN.{get_or}
-use borrow.Author.Tests.{le-ltb, lt-ltb}
-use Rattle.topology_rules.specs.Format.{switch_count}
-use Rattle.topology_rules.specs.Net.{Net, net_of, target}
-use Rattle.topology_rules.proofs.Channels.{target_switch}
-use Rattle.planner_rules.specs.Tree.{level, parent_channel, parent_number, parent_port}
-use Rattle.planner_rules.specs.Stand.{at}
-use Rattle.planner.specs.Wiring.{Tells, Wired, Grown, number_among}
-use Rattle.planner.specs.Answers.{place_of}
-use Rattle.planner.proofs.Described.{number_described}
+use mathlib.Core.Bool.{Bool, true, false, cond}
+use borrow.Author.Tests.{ltb-true}
+use Rattle.std.specs.Prelude.{Option, Some, None}
+use Rattle.topology_rules.specs.Format.{switch_count, cable_count}
+use Rattle.topology_rules.specs.Accepted.{Accepted}
+use Rattle.topology_rules.specs.Net.{Net, net_of, target, live}
+use Rattle.planner_rules.specs.Tree.{parent_channel, parent_number, parent_port, above, up, up_end}
+use Rattle.planner_rules.specs.Table.{holder}
+use Rattle.planner.specs.Choices.{parent_of}
+use Rattle.topology_rules.proofs.Soundness.{well_formed}
+use Rattle.planner_rules.proofs.Addresses.{holder_is}
 
--- what each pass tells, together
-pub grown : (d : List ℕ) (s c : ℕ) (l q m u a b p : List ℕ) → s ≡ switch_count d → Wired d s c a b p
-    → Tells s l (level (net_of d)) → Tells s q (parent_channel (net_of d)) → Tells s m (number_among s (net_of d).uid) → Tells s u (net_of d).uid → Grown d s c l q m u a b p
-grown d s c l q m u a b p e w levels parents numbers uids = record {
-  wired = w;
-  levels = levels;
-  parents = parents;
-  numbers = λ i h. numbers i h ∙ number_described d s i e;
-  uids = uids;
-}
+-- a channel is kept only where one is live
+some_kept : (t : Bool) (p ch : ℕ) → cond t (Some p) None ≡ Some ch → (t ≡ true) × (p ≡ ch)
+some_kept true p ch e = (refl, cc)
+some_kept false p ch e = absurd cc
 
--- switch i, where ch is the channel to its parent
-module _ (d : List ℕ) (s c : ℕ) (l q m u a b p : List ℕ) (g : Grown d s c l q m u a b p) where
+-- none is kept only where none is live
+none_kept : (t : Bool) (p : ℕ) → cond t (Some p) None ≡ None → t ≡ false
+none_kept true p e = absurd cc
+none_kept false p e = refl
+
+-- A root.
+module _ (n : Net) (s : ℕ) {kept : Option ℕ} (said : kept ≡ parent_of n s) (is : kept ≡ None) where
+  -- it has no channel up
+  none : live n (parent_channel n s) ≡ false
+  none = none_kept (live n (parent_channel n s)) (parent_channel n s) (sym said ∙ is)
+
+  -- its parent's number is 0
+  pub no_number : 0 ≡ parent_number n s
+  unfolding parent_number
+  no_number = rw none refl
+
+  -- its port is 0
+  pub no_port : 0 ≡ parent_port n s
+  unfolding parent_port
+  no_port = rw none refl
+
+-- A switch with channel ch to its parent.
+module _ (r d : List ℕ) (seen : r ≡ d) (s : ℕ) {kept : Option ℕ} {ch : ℕ} (said : kept ≡ parent_of (net_of d) s) (is : kept ≡ Some ch) where
+  -- the net
   abbrev n : Net
   n = net_of d
 
-  pub target_low : (ch : ℕ) → ch < c → get_or b ch 0 < s
-  target_low ch k = omega (arith, g.wired.wires.to ch k, target_switch n g.wired.wires.formed ch (omega (arith, g.wired.wires.channels)), g.wired.wires.switches)
+  -- it is the one of the rules
+  found : (live n (parent_channel n s) ≡ true) × (parent_channel n s ≡ ch)
+  found = some_kept (live n (parent_channel n s)) (parent_channel n s) ch (sym said ∙ is)
 
-  pub number_range : (i : ℕ) → i < s → (0 < get_or m i 0) × (get_or m i 0 ≤ 64)
-  number_range i h =
-      let here : i < n.switches = omega (arith, g.wired.wires.switches) in
-      let formed = g.wired.wires.formed in
-      (omega (arith, g.numbers i h, formed.number_low i here), omega (arith, g.numbers i h, formed.number_high i here))
+  -- it is a channel
+  pub channel_there : ch < 2 * cable_count r
+  unfolding net_of
+  channel_there = rw (seen, ← found.1) (ltb-true (parent_channel n s) _ found.0)
 
-  module _ (i ch : ℕ) (h : i < s) (e : ch ≡ get_or q i 0) where
-    placed : (x y z : ℕ) → x ≡ level n i → y ≡ parent_number n i → z ≡ parent_port n i → at x y z ≡ place_of n i
-    placed x y z e f g = rw (e, f, g) refl
+  -- its far end has the parent's number
+  pub parent_number_is : {x y : ℕ} → x ≡ target (net_of r) ch → y ≡ n.number x → y ≡ parent_number n s
+  unfolding parent_number
+  parent_number_is to e = rw (found.0, found.1) (e ∙ ap n.number (rw seen at to))
 
-    up : ch ≡ parent_channel n i
-    up = e ∙ g.parents i h
+  -- it leaves by the parent port
+  pub parent_port_is : {x : ℕ} → x ≡ (net_of r).out_port ch → x ≡ parent_port n s
+  unfolding parent_port
+  parent_port_is e = rw (found.0, found.1) (rw seen at e)
 
-    -- a parent stands at its far end
-    pub stands_below : (x : ℕ) → x ≡ get_or b ch 0 → ch < c → at (get_or l i 0) (get_or m x 0) (get_or p ch 0) ≡ place_of n i
-    unfolding parent_number parent_port
-    stands_below x f k =
-        let there : x ≡ target n ch = f ∙ g.wired.wires.to ch k in
-        let alive = lt-ltb ch n.channels (omega (arith, g.wired.wires.channels)) in
-        let number : get_or m x 0 ≡ n.number (target n ch) = g.numbers x (omega (arith, target_low ch k)) ∙ ap n.number there in
-        placed (get_or l i 0) (get_or m x 0) (get_or p ch 0) (g.levels i h) (rw (← up, alive) number) (rw (← up, alive) (g.wired.ports ch k))
+-- The up end of cable c, from the ends of its channel.
+module _ (r d : List ℕ) (seen : r ≡ d) (c : ℕ) {one other x y : ℕ} (from : one ≡ (net_of r).source (2 * c)) (to : other ≡ target (net_of r) (2 * c))
+    (number : y ≡ (net_of d).number x) where
+  -- it is the target where that stands above the source
+  pub up_at_target : above (net_of d) other one ≡ true → x ≡ other → y ≡ (net_of d).number (up_end (net_of d) c)
+  unfolding up up_end
+  up_at_target t e = let t' = rw (from, to, seen) at t in rw t' (number ∙ ap (net_of d).number (e ∙ rw seen at to))
 
-    -- a root has no parent
-    pub stands_first : c ≤ ch → at (get_or l i 0) 0 0 ≡ place_of n i
-    unfolding parent_number parent_port
-    stands_first k =
-        let dead = le-ltb ch n.channels (omega (arith, g.wired.wires.channels)) in
-        placed (get_or l i 0) 0 0 (g.levels i h) (rw (← up, dead) refl) (rw (← up, dead) refl)
+  -- it is the source where the target does not
+  pub up_at_source : above (net_of d) other one ≡ false → x ≡ one → y ≡ (net_of d).number (up_end (net_of d) c)
+  unfolding up up_end
+  up_at_source t e = let t' = rw (from, to, seen) at t in rw t' (number ∙ ap (net_of d).number (e ∙ rw seen at from))
+
+-- The holder of number k, where there is one.
+module _ (r d : List ℕ) (seen : r ≡ d) (k : ℕ) (held : holder (net_of d) k < switch_count d) where
+  -- the holder has the number
+  number_held : (net_of d).number (holder (net_of d) k) ≡ k
+  unfolding net_of
+  number_held = holder_is (net_of d) k held
+
+  -- no other switch has it
+  pub holds : Accepted r → (s : ℕ) → s < switch_count r → (net_of d).number s ≡ k → s ≡ holder (net_of d) k
+  unfolding net_of
+  holds a s h e = (well_formed d (rw seen at a)).numbers_differ s (holder (net_of d) k) (rw seen at h) held (e ∙ sym number_held)
+
+  -- it is among the switches
+  pub not_passed : {A : Type 0} (i : ℕ) → i ≡ switch_count r → ((s : ℕ) → s < i → (net_of d).number s ≡ k → ⊥) → A
+  not_passed i e none = absurd (none (holder (net_of d) k) (rw (e, seen) held) number_held)

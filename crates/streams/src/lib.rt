@@ -15,6 +15,7 @@ pub fn read_full<R: Read>(reader: &mut R, buffer: &mut [u8]) -> io::Result<usize
     ensures err { OnErr result (length buffer.new ≡ length buffer.old) }
 {
     let mut done = 0;
+    // `done` grows by what a read gives, so no `for` counts it, and std's methods that fill a buffer fail at an early end.
     while done < buffer.len() {
         let n = reader.read(&mut buffer[done..])?;
         if n == 0 {

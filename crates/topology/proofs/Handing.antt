@@ -1,56 +1,59 @@
 -- A job that checks first: a refusal of the check is handed on, and an accepted description goes on to the rest.
-use mathlib.Core.Path.{◌≡◌, refl, sym, ap}
+use mathlib.Core.Path.{◌≡◌, refl, sym, ap, ◌∙◌}
 use mathlib.Core.Bool.{not}
 use mathlib.Core.List.{List}
 use Prim.Native.Nat.{ℕ}
 use native.Mathlib.Omega.{arith}
 use lib.Dec.{T, eqb}
-use Rattle.topology_rules.specs.Check.{Verdict, refuse, accepted, verdict}
-use Rattle.topology_rules.specs.Accepted as good
-use Rattle.topology_rules.specs.Answers.{done, refused, answered, onto, outcome}
+use lib.ListN.{length}
+use Rattle.topology_rules.specs.Check.{Verdict, accepted, verdict}
+use Rattle.topology_rules.specs.Answers.{Reply, done, refused, Outcome, answered, onto, outcome}
 use Rattle.topology_rules.specs.Edit.{checked}
-use Rattle.topology.specs.Reasons.{number_of, verdict_of}
-use Rattle.topology.specs.declared.Reason.{Reason}
-use Rattle.topology.specs.declared.Checked.{Checked}
-use Rattle.topology.specs.declared.Checked.TheVariants.{Accepted, Refused}
 use Rattle.topology_rules.proofs.Tests.{cond_not, ne→neqb}
-use Rattle.topology_rules.proofs.Verdicts.{verdict_rule}
+use Rattle.topology_rules.proofs.Outcomes.{outcome_refused, outcome_done}
+use Rattle.topology.specs.Reasons.{number_of, refusal_of}
+use Rattle.topology.specs.declared.refusal.Reason.{Reason}
+use Rattle.topology.specs.declared.refusal.Refusal.{Refusal}
 use Rattle.topology.proofs.Determined.{some_number}
 use Rattle.topology.proofs.Passing.{applies}
 use Rattle.topology.proofs.Scans.{T_true}
-use Rattle.topology_rules.proofs.Outcomes.{outcome_refused, outcome_done}
 
 not_zero : (k : Reason) → T (not (eqb (number_of k) 0))
 not_zero k = ne→neqb (number_of k) 0 (λ e. omega (arith, some_number k))
 
 -- the check's answer
-module _ (d : List ℕ) (r : Checked) (e : verdict_of r ≡ verdict d) where
-  pub was_accepted : r ≡ Accepted → verdict d ≡ accepted
-  was_accepted f = sym (rw f at e)
+module _ (d : List ℕ) where
+  pub went_on : accepted ≡ verdict d → (rest : Verdict) → checked d rest ≡ rest
+  went_on e rest = rw (← e) refl
 
-  pub no_refusal : r ≡ Accepted → good.Accepted d
-  no_refusal f = (verdict_rule d).0 (ap (λ v. v.number) (was_accepted f))
+  pub handed_on : (f : Refusal) → refusal_of f ≡ verdict d → (rest : Verdict) → checked d rest ≡ refusal_of f
+  handed_on f e rest = rw (← e) (applies (not (eqb (number_of f.reason) 0)) _ rest (T_true _ (not_zero f.reason)))
 
-  pub went_on : r ≡ Accepted → (rest : Verdict) → checked d rest ≡ rest
-  went_on f rest = rw (was_accepted f) refl
-
-  pub handed_on : {k : Reason} {at : ℕ} → r ≡ Refused k at → (rest : Verdict) → checked d rest ≡ refuse (number_of k) at
-  handed_on {k} {at} f rest =
-      let v : verdict d ≡ refuse (number_of k) at = sym (rw f at e) in
-      rw v (applies (not (eqb (number_of k) 0)) _ rest (T_true _ (not_zero k)))
-
--- what a job answers that refuses, for reason k
-module _ (v : Verdict) (value : ℕ) (k : Reason) (at : ℕ) (e : v ≡ refuse (number_of k) at) where
-  pub answered_refused : answered v value ≡ refused (refuse (number_of k) at)
-  answered_refused = rw e (cond_not (eqb (number_of k) 0) _ _ (not_zero k))
-
-  pub outcome_handed : (new out : List ℕ) → outcome v value new out ≡ record { reply = refused (refuse (number_of k) at); out = out }
-  outcome_handed new out = rw e (outcome_refused (refuse (number_of k) at) value new out (some_number k))
+-- what a job answers that refuses
+module _ (v : Verdict) (value : ℕ) (f : Refusal) (e : v ≡ refusal_of f) where
+  pub answered_refused : answered v value ≡ refused (refusal_of f)
+  answered_refused = rw e (cond_not (eqb (number_of f.reason) 0) _ _ (not_zero f.reason))
 
 -- and one that refuses nothing
-module _ (v : Verdict) (value : ℕ) (e : v ≡ accepted) where
-  pub answered_done : answered v value ≡ done value
-  answered_done = rw e refl
+pub answered_done : (v : Verdict) (value : ℕ) → v ≡ accepted → answered v value ≡ done value
+answered_done v value e = rw e refl
 
-  pub outcome_given : (new out : List ℕ) → outcome v value new out ≡ record { reply = done value; out = onto new out }
-  outcome_given new out = outcome_done v value new out (ap (λ w. w.number) e)
+-- the reply and the output that this outcome has
+abbrev pub Gives : Outcome → Reply → List ℕ → Type 0
+Gives o reply out = (reply ≡ o.reply) × (out ≡ o.out)
+
+-- a job with this verdict that writes new
+module _ (v : Verdict) (new out : List ℕ) where
+  abbrev job : Outcome
+  job = outcome v (length new) new out
+
+  gives : (reply : Reply) (after : List ℕ) → job ≡ record { reply = reply; out = after } → Gives job reply after
+  gives reply after e = (ap (λ w. w.reply) (sym e), ap (λ w. w.out) (sym e))
+
+  pub refuses : (f : Refusal) → v ≡ refusal_of f → Gives job (refused (refusal_of f)) out
+  refuses f e = gives _ _ (rw e (outcome_refused (refusal_of f) (length new) new out (some_number f.reason)))
+
+  pub writes : v ≡ accepted → (w : List ℕ) → w ≡ new → (n : ℕ) (after : List ℕ) → n ≡ length w → after ≡ onto w out → Gives job (done n) after
+  writes e w s n after p q =
+      let g = gives _ _ (outcome_done v (length new) new out (ap (λ w. w.number) e)) in
+      (ap done (p ∙ ap length s) ∙ g.0, q ∙ ap (λ z. onto z out) s ∙ g.1)

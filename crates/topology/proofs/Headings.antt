@@ -8,20 +8,16 @@ use lib.Dec.{eqb, ltb}
 use borrow.Author.Tests.{eq-eqb, ne_eqb, ltb-false, le-ltb}
 use Rattle.topology_rules.specs.Format.{version_of, switch_count, cable_count, size_for}
 use Rattle.topology_rules.specs.Check.{Verdict, refuse, accepted, whenever, verdict, mark_differs, version_differs, bad_count, length_differs, switches_from, cables_from}
-use Rattle.topology.specs.Reasons.{onward, verdict_of}
-use Rattle.topology.specs.declared.Reason.{Reason}
-use Rattle.topology.specs.declared.Checked.{Checked}
-use Rattle.topology.specs.declared.Checked.TheVariants.{Accepted, Refused}
+use Rattle.topology_rules.specs.Accepted.{Accepted}
+use Rattle.topology_rules.proofs.Verdicts.{verdict_rule}
+use Rattle.topology.specs.Inside.{records_verdict}
 use Rattle.topology.proofs.Scans.{either_none}
-use Rattle.topology.proofs.Passing.{applies, passes, ended, going}
+use Rattle.topology.proofs.Passing.{applies, passes}
 
 -- the rules from one on
 module _ (d : List ℕ) where
-  abbrev pub from_records : Verdict
-  from_records = switches_from d (switch_count d) 0 (cables_from d (cable_count d) 0)
-
   abbrev pub from_length : Verdict
-  from_length = whenever (length_differs d) (refuse 6 0) from_records
+  from_length = whenever (length_differs d) (refuse 6 0) (records_verdict d)
 
   abbrev pub from_cables : Verdict
   from_cables = whenever (ltb 384 (cable_count d)) (refuse 5 0) from_length
@@ -68,21 +64,16 @@ module _ (d : List ℕ) (e : Left from_length d) where
   pub other_length : (length d ≡ size_for (switch_count d) (cable_count d) → ⊥) → verdict d ≡ refuse 6 0
   other_length n = e ∙ applies _ _ _ (ap not (ne_eqb _ _ n))
 
-  pub right_length : length d ≡ size_for (switch_count d) (cable_count d) → Left from_records d
+  pub right_length : length d ≡ size_for (switch_count d) (cable_count d) → Left records_verdict d
   right_length f = e ∙ passes _ _ _ (ap not (eq-eqb _ _ f))
-
--- the switch records settle it, or the cable records do
-module _ (d : List ℕ) (e : Left from_records d) (s : ℕ) (n : s ≡ switch_count d) (r : Checked)
-    (found : (rest : Verdict) → switches_from d s 0 rest ≡ onward r rest) where
-  after_switches : (rest : Verdict) → switches_from d (switch_count d) 0 rest ≡ onward r rest
-  after_switches rest = rw (← n) (found rest)
-
-  pub by_switches : {k : Reason} {at : ℕ} → r ≡ Refused k at → verdict_of r ≡ verdict d
-  by_switches {k} {at} f = sym (e ∙ after_switches _ ∙ ended r k at f _ accepted)
-
-  pub by_cables : r ≡ Accepted → (l : ℕ) → l ≡ cable_count d → {v : Verdict} → v ≡ cables_from d l 0 → v ≡ verdict d
-  by_cables f l m g = g ∙ ap (λ k. cables_from d k 0) m ∙ sym (e ∙ after_switches _ ∙ going r f _)
 
 -- 4 does not apply
 pub few : (s : ℕ) → bad_count s ≡ false → s ≤ 64
 few s e = ltb-false 64 s (either_none (eqb s 0) (ltb 64 s) e).1
+
+-- where nothing is refused: r as the records were read
+pub none_refused : (r d : List ℕ) → r ≡ d → verdict d ≡ records_verdict d → ((rest : Verdict) → switches_from r (switch_count r) 0 rest ≡ rest)
+    → accepted ≡ cables_from r (cable_count r) 0 → Accepted r
+none_refused r d same e switches cables =
+    let v : verdict r ≡ records_verdict r = rw same e in
+    (verdict_rule r).0 (ap (λ v. v.number) (v ∙ switches (cables_from r (cable_count r) 0) ∙ sym cables))

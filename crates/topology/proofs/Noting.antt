@@ -10,9 +10,11 @@ use lib.Seq.{get_or-set_same, get_or-set_other}
 use lib.Dec.{eqb, ltb, eqb→eq}
 use borrow.Author.Tests.{leb-false, ltb-false}
 use Rattle.topology_rules.specs.Count.{both, either, bit, any}
-use Rattle.topology_rules.specs.Format.{hosts_at, end_switch, end_port, ends_at}
+use Rattle.topology_rules.specs.Format.{switch_count, hosts_at, end_port, ends_at}
 use Rattle.topology_rules.specs.Check.{Verdict, refuse, accepted, whenever, bad_switch, bad_switches, bad_port, bad_ports, port_taken, cable_rule}
 use Rattle.topology.specs.Inside.{Ends, used, Noted}
+use Rattle.topology.specs.End.{end_at}
+use Rattle.topology.specs.declared.records.End.{End}
 use Rattle.topology_rules.proofs.Tests.{decide, both_T, T_both, eq→eqb}
 use Rattle.topology.proofs.Scans.{T_true, not_true_false, any_none, any_two, either_true, either_false, either_none}
 
@@ -40,14 +42,21 @@ kept_ends d c e = let x = go (bad_switches d c) (bad_ports d c) _ (ap (λ v. v.n
     go false true rest e = absurd (omega arith)
     go false false rest e = (refl, refl)
 
+-- so their places are in the table
+module _ (d : List ℕ) (c : ℕ) (k : Ends d c) (few : switch_count d ≤ 64) (x : End) where
+  pub first_low : x ≡ end_at d (2 * c) → (x.switch < switch_count d) × (x.switch < 64) × (x.port ≤ 12)
+  first_low e = rw e (k.first_switch, omega (arith, k.first_switch), k.first_port)
+
+  pub second_low : x ≡ end_at d (2 * c + 1) → (x.switch < switch_count d) × (x.switch < 64) × (x.port ≤ 12)
+  second_low e = rw e (k.second_switch, omega (arith, k.second_switch), k.second_port)
+
 -- what stands in the table decides 12
-pub taken_noted : (d : List ℕ) (c : ℕ) (m : List Bool) → Noted d c m → (e x p : ℕ) → x ≡ end_switch d e → p ≡ end_port d e → x < 64 → p ≤ 12
-    → either (bit (hosts_at d x) p) (get_or m (13 * x + p) false) ≡ port_taken d c e
+pub taken_noted : (d : List ℕ) (c : ℕ) (m : List Bool) → Noted d c m → (e : ℕ) (x : End) → x ≡ end_at d e → x.switch < 64 → x.port ≤ 12
+    → either (bit (hosts_at d x.switch) x.port) (get_or m (13 * x.switch + x.port) false) ≡ port_taken d c e
 unfolding used
-taken_noted d c m k e x p ex ep hx hp =
-    ap (either (bit (hosts_at d x) p)) (k.says x p hx hp)
-    ∙ ap (λ x. either (bit (hosts_at d x) p) (any (2 * c) (ends_at d x p))) ex
-    ∙ ap (λ p. either (bit (hosts_at d (end_switch d e)) p) (any (2 * c) (ends_at d (end_switch d e) p))) ep
+taken_noted d c m k e x at hx hp =
+    ap (either (bit (hosts_at d x.switch) x.port)) (k.says x.switch x.port hx hp)
+    ∙ ap (λ (y : End). either (bit (hosts_at d y.switch) y.port) (any (2 * c) (ends_at d y.switch y.port))) at
 
 -- no cable yet
 pub noted_none : (d : List ℕ) → Noted d 0 (replicate 832 false)
@@ -73,20 +82,20 @@ module _ (m : List Bool) (x p y q : ℕ) (hp : p ≤ 12) (hq : q ≤ 12) (hy : 1
   ]
 
 -- one cable more
-pub noted_next : (d : List ℕ) (c : ℕ) (m : List Bool) (x p y q : ℕ) → Noted d c m
-    → x ≡ end_switch d (2 * c) → p ≡ end_port d (2 * c) → y ≡ end_switch d (2 * c + 1) → q ≡ end_port d (2 * c + 1) → x < 64 → p ≤ 12 → y < 64 → q ≤ 12
-    → Noted d (c + 1) (set (set m (13 * x + p) true) (13 * y + q) true)
+pub noted_next : (d : List ℕ) (c : ℕ) (m : List Bool) (x y : End) (i j : ℕ) → Noted d c m → x ≡ end_at d (2 * c) → y ≡ end_at d (2 * c + 1)
+    → x.switch < 64 → x.port ≤ 12 → y.switch < 64 → y.port ≤ 12 → i ≡ 13 * x.switch + x.port → j ≡ 13 * y.switch + y.port
+    → Noted d (c + 1) (set (set m i true) j true)
 unfolding used
-noted_next d c m x p y q k ex ep ey eq hx hp hy hq = record {
+noted_next d c m x y i j k ex ey hx hp hy hq ei ej = rw (ei, ej) (record {
   size = simp length-set k.size;
   says = λ u v hu hv.
-      port_noted (set m (13 * x + p) true) u v y q hv hq (simp length-set (omega (arith, k.size)))
-      ∙ ap (λ b. either b (both (eqb y u) (eqb q v))) (port_noted m u v x p hv hp (omega (arith, k.size)))
-      ∙ ap (λ b. either (either b (both (eqb x u) (eqb p v))) (both (eqb y u) (eqb q v))) (k.says u v hu hv)
-      ∙ ap (λ b. either (either (used d c u v) b) (both (eqb y u) (eqb q v))) (same x p (2 * c) u v ex ep)
-      ∙ ap (λ b. either (either (used d c u v) (ends_at d u v (2 * c))) b) (same y q (2 * c + 1) u v ey eq)
+      port_noted (set m (13 * x.switch + x.port) true) u v y.switch y.port hv hq (simp length-set (omega (arith, k.size)))
+      ∙ ap (λ b. either b (both (eqb y.switch u) (eqb y.port v))) (port_noted m u v x.switch x.port hv hp (omega (arith, k.size)))
+      ∙ ap (λ b. either (either b (both (eqb x.switch u) (eqb x.port v))) (both (eqb y.switch u) (eqb y.port v))) (k.says u v hu hv)
+      ∙ ap (λ b. either (either (used d c u v) b) (both (eqb y.switch u) (eqb y.port v))) (same x (2 * c) u v ex)
+      ∙ ap (λ b. either (either (used d c u v) (ends_at d u v (2 * c))) b) (same y (2 * c + 1) u v ey)
       ∙ any_two (ends_at d u v) c;
-}
+})
   where
-    same : (a b f u v : ℕ) → a ≡ end_switch d f → b ≡ end_port d f → both (eqb a u) (eqb b v) ≡ ends_at d u v f
-    same a b f u v e g = rw (e, g) refl
+    same : (a : End) (f u v : ℕ) → a ≡ end_at d f → both (eqb a.switch u) (eqb a.port v) ≡ ends_at d u v f
+    same a f u v e = ap (λ (y : End). both (eqb y.switch u) (eqb y.port v)) e

@@ -6,10 +6,6 @@ use Prim.Native.Nat.{ℕ, suc, ◌+◌, ◌-◌, ◌≤◌, ◌<◌}
 use native.Mathlib.Omega.{arith}
 use native.Mathlib.Numerals.{add-one}
 use Rattle.topology_rules.specs.Check.{Verdict, accepted, whenever, switch_rule, switches_from, cable_rule, cables_from}
-use Rattle.topology.specs.Reasons.{onward}
-use Rattle.topology.specs.declared.Reason.{Reason}
-use Rattle.topology.specs.declared.Checked.{Checked}
-use Rattle.topology.specs.declared.Checked.TheVariants.{Accepted, Refused}
 
 pub applies : (a : Bool) (v rest : Verdict) → a ≡ true → whenever a v rest ≡ v
 applies a v rest e = rw e refl
@@ -34,10 +30,3 @@ module _ (d : List ℕ) where
   pub cables_done : (l c : ℕ) → l ≤ c → cables_from d (l - c) c ≡ accepted
   unfolding cables_from
   cables_done l c h = let n : l - c ≡ 0 = omega arith in rw n refl
-
--- a refusal ends the chain, and nothing else does
-pub ended : (r : Checked) (k : Reason) (at : ℕ) → r ≡ Refused k at → (v w : Verdict) → onward r v ≡ onward r w
-ended r k at e v w = rw e refl
-
-pub going : (r : Checked) → r ≡ Accepted → (rest : Verdict) → onward r rest ≡ rest
-going r e rest = rw e refl

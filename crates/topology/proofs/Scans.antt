@@ -4,8 +4,8 @@ use mathlib.Core.Bool.{Bool, true, false}
 use Prim.Native.Nat.{ℕ, suc, ◌+◌, ◌*◌, ◌-◌, ◌/◌, ◌%◌, ◌^◌, ◌≤◌, ◌<◌}
 use native.Mathlib.Numerals.{add-one}
 use native.Mathlib.Omega.{arith}
-use lib.Dec.{T, eqb, leb}
-use Rattle.topology_rules.specs.Count.{both, either, bit, any, least}
+use lib.Dec.{T, eqb}
+use Rattle.topology_rules.specs.Count.{either, bit, any, least}
 use Rattle.topology_rules.proofs.Searches.{T_any}
 
 pub true_T : (b : Bool) → b ≡ true → T b
@@ -38,9 +38,6 @@ any_next f k p q = rw add-one (any_suc f k ∙ simp (p, q))
 pub any_hit : (f : ℕ → Bool) (k i : ℕ) → k < i → f k ≡ true → any i f ≡ true
 any_hit f k i h e = T_true (any i f) (T_any f i k h (true_T (f k) e))
 
-pub any_end : (f : ℕ → Bool) (k i : ℕ) → k ≤ i → i ≤ k → any k f ≡ false → false ≡ any i f
-any_end f k i h l e = let s : k ≡ i = omega arith in sym (rw s at e)
-
 -- the second test settles it where the first fails
 pub either_left : (a b : Bool) → a ≡ true → either a b ≡ true
 either_left a b e = rw e refl
@@ -70,9 +67,6 @@ any_two f c =
 pub lowest : (h k : ℕ) → h ≡ k → eqb (h % 2) 1 ≡ bit k 0
 lowest h k e = let s : h % 2 ≡ k / 2 ^ 0 % 2 = omega arith in ap (λ x. eqb x 1) s
 
-pub leb_same : (a b x y : ℕ) → a ≡ b → x ≡ y → leb a x ≡ leb b y
-leb_same a b x y e f = rw (e, f) refl
-
 -- `a || b` in the code, where A and B are what the rules say of the two
 module _ (a A B : Bool) (e : a ≡ A) where
   pub or_left : a ≡ true → a ≡ either A B
@@ -100,11 +94,3 @@ module _ (f : ℕ → Bool) (s i : ℕ) where
   pub least_none : s ≤ i → i ≤ s → least (s - i) i f ≡ s
   unfolding least
   least_none h l = let n : s - i ≡ 0 = omega arith in let e : i ≡ s = omega arith in rw n e
-
--- `a && b` in the code, where A and B are what the rules say of the two
-module _ (a A B : Bool) (e : a ≡ A) where
-  pub and_left : a ≡ false → a ≡ both A B
-  and_left t = t ∙ ap (λ c. both c B) (sym t ∙ e)
-
-  pub and_right : (b : Bool) → a ≡ true → b ≡ B → b ≡ both A B
-  and_right b t s = s ∙ ap (λ c. both c B) (sym t ∙ e)

@@ -1,13 +1,14 @@
 -- What the private functions ask of each other.
-use Rattle.std.specs.Prelude.{ℕ, ◌+◌, ◌*◌, ◌≤◌, ◌<◌, ◌≡◌, Bool, false, not, List, slice_index_or, length, nat_eq}
+use Rattle.std.specs.Prelude.{ℕ, ◌+◌, ◌*◌, ◌≤◌, ◌<◌, ◌≡◌, Bool, false, List, slice_index_or, length}
 use Rattle.std.proofs.Math.Seq.{paste}
-use Rattle.topology_rules.specs.Count.{both, any, those}
+use Rattle.topology_rules.specs.Count.{any}
 use Rattle.topology_rules.specs.Format.{switch_count, cable_count, end_switch, end_port, ends_at}
-use Rattle.topology_rules.specs.Edit.{part, fall, clear, other_switches}
+use Rattle.topology_rules.specs.Check.{Verdict, switches_from, cables_from}
 
 -- the counts that were read, and room for their records
 pub record Sized (d : List ℕ) (s l : ℕ) : Type 0 where
   pub switches : s ≡ switch_count d
+  pub cables : l ≡ cable_count d
   pub few_switches : s ≤ 64
   pub few_cables : l ≤ 384
   pub room : 9 + 8 * s + 4 * l ≤ length d
@@ -33,10 +34,6 @@ pub record Written (o : List ℕ) (at : ℕ) (w out : List ℕ) (end : ℕ) : Ty
   pub up_to : end ≡ at + length w
   pub whole : out ≡ paste o at w (length w)
 
--- cable c stays without switch x and without cable b
-abbrev pub stays : List ℕ → ℕ → ℕ → ℕ → Bool
-stays d x b c = both (not (nat_eq c b)) (clear d x c)
-
--- the description without switch x, the cables that end there, and cable b; x or b past the last drops none
-unfoldable pub without : List ℕ → ℕ → ℕ → List ℕ
-without d x b = part d (other_switches d x) (those (cable_count d) 0 (stays d x b)) (fall x)
+-- what the records of a description are refused for, once 1 to 6 do not apply
+abbrev pub records_verdict : List ℕ → Verdict
+records_verdict d = switches_from d (switch_count d) 0 (cables_from d (cable_count d) 0)

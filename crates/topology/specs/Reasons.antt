@@ -1,15 +1,10 @@
--- The numbers and values of the answers that are enums in the code.
-use Rattle.std.specs.Prelude.{ℕ}
+-- The numbers of the reasons, and what the answers say.
+use Rattle.std.specs.Prelude.{ℕ, Result, Ok, Err}
 use Rattle.topology_rules.specs.Check.{Verdict, refuse, accepted}
 use Rattle.topology_rules.specs.Answers.{Reply, done, refused}
-use Rattle.topology.specs.declared.Reason.{Reason}
-use Rattle.topology.specs.declared.Reason.TheVariants.{Short, Mark, Version, SwitchCount, CableCount, Length, Uid, Hosts, EndSwitch, EndPort, OneSwitch, PortTaken, NoSuchUid, OnlySwitch, NoCable, LittleRoom, Unsound, NoSuchPlace, BadAddress, ChannelEmpty, PortForbidden, ChannelTaken}
-use Rattle.topology.specs.declared.Checked.{Checked}
-use Rattle.topology.specs.declared.Checked.TheVariants as check
-use Rattle.topology.specs.declared.Found.{Found}
-use Rattle.topology.specs.declared.Found.TheVariants as search
-use Rattle.topology.specs.declared.Edited.{Edited}
-use Rattle.topology.specs.declared.Edited.TheVariants as edit
+use Rattle.topology.specs.declared.refusal.Refusal.{Refusal}
+use Rattle.topology.specs.declared.refusal.Reason.{Reason}
+use Rattle.topology.specs.declared.refusal.Reason.TheVariants.{Short, Mark, Version, SwitchCount, CableCount, Length, Uid, Hosts, EndSwitch, EndPort, OneSwitch, PortTaken, NoSuchUid, OnlySwitch, NoCable, LittleRoom, Unsound, NoSuchPlace, BadAddress, ChannelEmpty, PortForbidden, ChannelTaken}
 
 abbrev pub number_of : Reason → ℕ
 number_of Short = 1
@@ -35,21 +30,20 @@ number_of ChannelEmpty = 20
 number_of PortForbidden = 21
 number_of ChannelTaken = 22
 
+-- number and position of a refusal
+abbrev pub refusal_of : Refusal → Verdict
+refusal_of r = refuse (number_of r.reason) r.position
+
 -- a refusal, or what comes after
-abbrev pub onward : Checked → Verdict → Verdict
-onward check.Accepted rest = rest
-onward (check.Refused r at) rest = refuse (number_of r) at
+abbrev pub onward : {A : Type 0} → Result A Refusal → Verdict → Verdict
+onward (Ok _) rest = rest
+onward (Err r) rest = refusal_of r
 
 -- what checking answers
-abbrev pub verdict_of : Checked → Verdict
+abbrev pub verdict_of : {A : Type 0} → Result A Refusal → Verdict
 verdict_of r = onward r accepted
 
--- what finding answers
-abbrev pub found_of : Found → Reply
-found_of (search.At i) = done i
-found_of (search.Refused r at) = refused (refuse (number_of r) at)
-
--- what retiring and pulling answer
-abbrev pub edited_of : Edited → Reply
-edited_of (edit.Written n) = done n
-edited_of (edit.Refused r at) = refused (refuse (number_of r) at)
+-- what finding, retiring and pulling answer
+abbrev pub reply_of : Result ℕ Refusal → Reply
+reply_of (Ok n) = done n
+reply_of (Err r) = refused (refusal_of r)

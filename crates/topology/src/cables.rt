@@ -1,101 +1,115 @@
 // What is wrong with a cable record, and which ports the cables so far use.
-ghost use Rattle.std.specs.Prelude.{◌≡◌, false, ◌+◌, ◌*◌, ◌<◌, ◌≤◌, length, slice_index_or};
+ghost use Rattle.std.specs.Prelude.{◌≡◌, false, ◌+◌, ◌*◌, ◌<◌, ◌≤◌, slice_index_or};
 ghost use Rattle.topology_rules.specs.Count.{bit, either};
-ghost use Rattle.topology_rules.specs.Format.{hosts_at};
-ghost use Rattle.topology_rules.specs.Check.{Verdict, cable_rule, bad_port, bad_switches, bad_ports, one_switch, ports_taken};
-ghost use Rattle.topology.specs.Reasons.{onward};
-ghost use Rattle.topology.specs.Inside.{Sized, Ends, Noted};
+ghost use Rattle.topology_rules.specs.Format.{switch_count, cable_count, hosts_at};
+ghost use Rattle.topology_rules.specs.Check.{Verdict, cable_rule, cables_from, bad_port, bad_switches, bad_ports, one_switch, ports_taken};
+ghost use Rattle.topology.specs.Reasons.{onward, verdict_of};
+ghost use Rattle.topology.specs.Inside.{Ends, Noted};
 
-use super::reading::{end_port, end_switch, two};
-use super::{Checked, Reason, Topology};
+use super::Topology;
+use super::records::{End, Records};
+use super::refusal::{Reason, Refusal};
 
-// 9: an end at a switch that is not there.
-fn bad_switches(d: &[u8], s: usize, l: usize, c: usize) -> bool
-    requires { Sized d.now s l × (c < l) }
-    ensures { result ≡ bad_switches d.now c }
+// Where the table of used ports holds the one at an end, 13 for each switch.
+fn place(end: End) -> usize
+    requires { (end.switch < 64) × (end.port ≤ 12) }
+    ensures { (result ≡ 13 * end.switch + end.port) × (result < 832) }
 {
-    s <= end_switch(d, s, 2 * c) || s <= end_switch(d, s, 2 * c + 1)
+    13 * end.switch as usize + end.port as usize
 }
 
-fn bad_port(p: usize) -> bool
+fn bad_port(p: u8) -> bool
     ensures { result ≡ bad_port p }
 {
-    p == 0 || Topology::PORTS < p
+    p == 0 || Topology::PORTS < p as usize
 }
 
-// 10: an end at no cable port.
-fn bad_ports(d: &[u8], s: usize, l: usize, c: usize) -> bool
-    requires { Sized d.now s l × (c < l) }
-    ensures { result ≡ bad_ports d.now c }
-{
-    bad_port(end_port(d, s, 2 * c)) || bad_port(end_port(d, s, 2 * c + 1))
-}
-
-// 11: both ends on one switch.
-fn one_switch(d: &[u8], s: usize, l: usize, c: usize) -> bool
-    requires { Sized d.now s l × (c < l) }
-    ensures { result ≡ one_switch d.now c }
-{
-    end_switch(d, s, 2 * c) == end_switch(d, s, 2 * c + 1)
-}
-
-// Whether port p of switch x has a host or is noted as used.
-fn occupied(d: &[u8], used: &[bool; Topology::PLACES], x: usize, p: usize) -> bool
-    requires { (17 + 8 * x ≤ length d.now) × (x < 64) × (p ≤ 12) }
-    ensures { result ≡ either (bit (hosts_at d.now x) p) (slice_index_or used.now (13 * x + p) false) }
-{
-    (two(d, 15 + 8 * x) >> p) % 2 == 1 || used[13 * x + p]
-}
-
-// 12: an end of cable c at a host's port or at one that an earlier cable uses.
-fn ports_taken(d: &[u8], s: usize, l: usize, c: usize, used: &[bool; Topology::PLACES]) -> bool
-    requires { Sized d.now s l × (c < l) × Noted d.now c used.now × Ends d.now c }
-    ensures { result ≡ ports_taken d.now c }
-{
-    occupied(d, used, end_switch(d, s, 2 * c), end_port(d, s, 2 * c))
-        || occupied(
-            d,
-            used,
-            end_switch(d, s, 2 * c + 1),
-            end_port(d, s, 2 * c + 1),
-        )
-}
-
-// Record c: 9, 10, 11, 12.
-pub fn cable_record(
-    d: &[u8],
-    s: usize,
-    l: usize,
-    c: usize,
-    used: &[bool; Topology::PLACES],
-) -> Checked
-    requires { Sized d.now s l × (c < l) × Noted d.now c used.now }
-    ensures { (rest : Verdict) → cable_rule d.now c rest ≡ onward result rest }
-{
-    if bad_switches(d, s, l, c) {
-        return Checked::Refused(Reason::EndSwitch, c as u16);
+impl<'a> Records<'a> {
+    // 9: an end at a switch that is not there.
+    fn bad_switches(&self, c: usize) -> bool
+        requires { c < cable_count self.now }
+        ensures { result ≡ bad_switches self.now c }
+    {
+        let (one, other) = self.ends(c);
+        let s = self.switches();
+        s <= one.switch as usize || s <= other.switch as usize
     }
-    if bad_ports(d, s, l, c) {
-        return Checked::Refused(Reason::EndPort, c as u16);
-    }
-    if one_switch(d, s, l, c) {
-        return Checked::Refused(Reason::OneSwitch, c as u16);
-    }
-    if ports_taken(d, s, l, c, used) {
-        return Checked::Refused(Reason::PortTaken, c as u16);
-    }
-    Checked::Accepted
-}
 
-// Notes the ports of cable c.
-pub fn note_ends(d: &[u8], s: usize, l: usize, c: usize, used: &mut [bool; Topology::PLACES])
-    requires { Sized d.now s l × (c < l) × Noted d.now c used.old × Ends d.now c }
-    ensures { Noted d.now (c + 1) used.new }
-{
-    let x = end_switch(d, s, 2 * c);
-    let p = end_port(d, s, 2 * c);
-    used[13 * x + p] = true;
-    let y = end_switch(d, s, 2 * c + 1);
-    let q = end_port(d, s, 2 * c + 1);
-    used[13 * y + q] = true;
+    // 10: an end at no cable port.
+    fn bad_ports(&self, c: usize) -> bool
+        requires { c < cable_count self.now }
+        ensures { result ≡ bad_ports self.now c }
+    {
+        let (one, other) = self.ends(c);
+        bad_port(one.port) || bad_port(other.port)
+    }
+
+    // 11: both ends on one switch.
+    fn one_switch(&self, c: usize) -> bool
+        requires { c < cable_count self.now }
+        ensures { result ≡ one_switch self.now c }
+    {
+        let (one, other) = self.ends(c);
+        one.switch == other.switch
+    }
+
+    // Whether the port at an end has a host or is noted as used.
+    fn occupied(&self, end: End, used: &[bool; Topology::PLACES]) -> bool
+        requires { (end.switch < switch_count self.now) × (end.switch < 64) × (end.port ≤ 12) }
+        ensures { result ≡ either (bit (hosts_at self.now end.switch) end.port) (slice_index_or used.now (13 * end.switch + end.port) false) }
+    {
+        (self.hosts(end.switch as usize) >> end.port) % 2 == 1 || used[place(end)]
+    }
+
+    // 12: an end of cable c at a host's port or at one that an earlier cable uses.
+    fn ports_taken(&self, c: usize, used: &[bool; Topology::PLACES]) -> bool
+        requires { (c < cable_count self.now) × Noted self.now c used.now × Ends self.now c }
+        ensures { result ≡ ports_taken self.now c }
+    {
+        let (one, other) = self.ends(c);
+        self.occupied(one, used) || self.occupied(other, used)
+    }
+
+    // Record c: 9, 10, 11, 12.
+    fn check_cable(&self, c: usize, used: &[bool; Topology::PLACES]) -> Result<(), Refusal>
+        requires { (c < cable_count self.now) × (c < 384) × Noted self.now c used.now }
+        ensures { (rest : Verdict) → cable_rule self.now c rest ≡ onward result rest }
+    {
+        if self.bad_switches(c) {
+            return Err(Reason::EndSwitch.at(c));
+        }
+        if self.bad_ports(c) {
+            return Err(Reason::EndPort.at(c));
+        }
+        if self.one_switch(c) {
+            return Err(Reason::OneSwitch.at(c));
+        }
+        if self.ports_taken(c, used) {
+            return Err(Reason::PortTaken.at(c));
+        }
+        Ok(())
+    }
+
+    // Notes the ports of cable c.
+    fn note_ends(&self, c: usize, used: &mut [bool; Topology::PLACES])
+        requires { (c < cable_count self.now) × Noted self.now c used.old × Ends self.now c }
+        ensures { Noted self.now (c + 1) used.new }
+    {
+        let (one, other) = self.ends(c);
+        used[place(one)] = true;
+        used[place(other)] = true;
+    }
+
+    // 9 to 12, over the cable records in file order.
+    pub fn check_cables(&self) -> Result<(), Refusal>
+        ensures { verdict_of result ≡ cables_from self.now (cable_count self.now) 0 }
+    {
+        // Which ports the cables so far use.
+        let mut used = [false; Topology::PLACES];
+        for c in 0..self.cables() {
+            self.check_cable(c, &used)?;
+            self.note_ends(c, &mut used);
+        }
+        Ok(())
+    }
 }

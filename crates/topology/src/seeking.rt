@@ -1,39 +1,33 @@
-// The switch record with a UID, all 48 bits compared.
-ghost use Rattle.std.specs.Prelude.{◌≡◌, ◌+◌, ◌*◌, ◌≤◌, length};
-ghost use Rattle.topology_rules.specs.Format.{switch_count};
-ghost use Rattle.topology_rules.specs.Edit.{find, find_reply};
-ghost use Rattle.topology.specs.Reasons.{found_of};
+// The cable at a port.
+ghost use Rattle.std.specs.Prelude.{◌≡◌, OkIff, IfErr, ◌+◌, ◌*◌, ◌<◌};
+ghost use Rattle.topology.specs.declared.refusal.Reason.TheVariants.{NoCable};
+ghost use Rattle.topology_rules.specs.Count.{either};
+ghost use Rattle.topology_rules.specs.Format.{cable_count, ends_at};
+ghost use Rattle.topology_rules.specs.Edit.{cable_of};
 
-use super::checking::check;
-use super::reading::{six, two};
-use super::{Checked, Found, Reason};
+use super::records::Records;
+use super::refusal::Reason;
 
-// The first of s records whose UID is u; s where there is none.
-pub fn seek(d: &[u8], s: usize, u: u64) -> usize
-    requires { (s ≡ switch_count d.now) × (9 + 8 * s ≤ length d.now) }
-    ensures { result ≡ find d.now u }
-{
-    let mut i = 0;
-    while i < s {
-        if six(d, 9 + 8 * i) == u {
-            return i;
+impl<'a> Records<'a> {
+    // Whether cable c has an end at port p of switch x.
+    fn ends_at(&self, c: usize, x: usize, p: u64) -> bool
+        requires { c < cable_count self.now }
+        ensures { result ≡ either (ends_at self.now x p (2 * c)) (ends_at self.now x p (2 * c + 1)) }
+    {
+        let (one, other) = self.ends(c);
+        one.is_at(x, p) || other.is_at(x, p)
+    }
+
+    // The first cable at port p of switch x, or 15.
+    pub fn cable_at(&self, x: usize, p: u64) -> Result<usize, Reason>
+        ensures found { OkIff result (cable_of self.now x p < cable_count self.now) (cable_of self.now x p) }
+        ensures missing { IfErr result (λ r. r ≡ NoCable) }
+    {
+        for c in 0..self.cables() {
+            if self.ends_at(c, x, p) {
+                return Ok(c);
+            }
         }
-        i += 1;
+        Err(Reason::NoCable)
     }
-    s
-}
-
-/// Where the record with that UID stands, or the first refusal of 1 to 13.
-pub fn find(d: &[u8], uid: u64) -> Found
-    ensures { found_of result ≡ find_reply d.now uid }
-{
-    if let Checked::Refused(r, at) = check(d) {
-        return Found::Refused(r, at);
-    }
-    let s = two(d, 5) as usize;
-    let i = seek(d, s, uid);
-    if s <= i {
-        return Found::Refused(Reason::NoSuchUid, 0);
-    }
-    Found::At(i as u16)
 }

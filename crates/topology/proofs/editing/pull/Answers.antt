@@ -1,49 +1,43 @@
 -- A refusal is handed on or found; past them all the writer has written the rest.
-use Rattle.std.proofs.Common.{arith}
-use Rattle.topology.proofs.Handing.{no_refusal}
-use Rattle.topology.proofs.EditAnswers.{sized, pull_refused, pull_unknown, pull_none, pull_little, pull_written, pull_asks}
+use Rattle.std.proofs.Common.{◌≡◌, ◌∙◌}
+use Rattle.std.proofs.lemmas.Result.{err_from_is_err_and}
+use Rattle.topology.proofs.EditAnswers.{pull_handed, pull_unknown, pull_none, pull_little, pull_written}
 use Rattle.topology.proofs.editing.pull.Goals as goal
 
-pub returns-in-Refused : goal.returns-in-Refused
-returns-in-Refused c =
-    let g = pull_refused _ _ _ _ c.check.ensures _ _ _ c.in-Refused.is in
-    record { answer = g.0; output = g.1 }
+pub returns-in_err-net : goal.returns-in_err-net
+returns-in_err-net c =
+    let p = err_from_is_err_and c.from_residual.result c.from_residual.ensures.1 in
+    let g = pull_handed _ _ _ c.in_err-net.ensures.answer _ _ in
+    rw (p.1, p.2) (record { answer = g.0; output = g.1 })
 
-pub two-s-requires : goal.two-s-requires
-two-s-requires c = omega (arith, (no_refusal _ _ c.check.ensures c.in_default.is).size)
+pub returns-in_err-x : goal.returns-in_err-x
+returns-in_err-x c =
+    let p = err_from_is_err_and c.from_residual-in_err-x.result c.from_residual-in_err-x.ensures.1 in
+    let g = pull_unknown _ _ c.in_ok-net.ensures.answer (rw c.in_ok-net.ensures.bytes at c.in_err-x.ensures.found) _ _ in
+    rw (p.1, p.2, c.in_err-x.ensures.missing) (record { answer = g.0; output = g.1 })
 
-pub two-l-requires : goal.two-l-requires
-two-l-requires c = omega (arith, (no_refusal _ _ c.check.ensures c.in_default.is).size)
+pub returns-in_err-c : goal.returns-in_err-c
+returns-in_err-c c =
+    let same : c.net.inside.records ≡ c.args.d.now = c.net.view_is ∙ c.in_ok-net.ensures.bytes in
+    let p = err_from_is_err_and c.from_residual-in_err-c.result c.from_residual-in_err-c.ensures.1 in
+    let there = rw c.in_ok-net.ensures.bytes at c.in_ok-x.ensures.found in
+    let g = pull_none _ _ c.in_ok-net.ensures.answer there.0 _ _ _ there.1 (rw same at c.in_err-c.ensures.found) in
+    rw (p.1, p.2, c.in_err-c.ensures.missing) (record { answer = g.0; output = g.1 })
 
-pub seek-x-requires : goal.seek-x-requires
-seek-x-requires c = (c.two-s.ensures, omega (arith, (no_refusal _ _ c.check.ensures c.in_default.is).size))
-
-pub returns-then-s-x : goal.returns-then-s-x
-returns-then-s-x c =
-    let g = pull_unknown _ _ _ _ c.check.ensures c.in_default.is _ _ c.two-s.ensures c.seek-x.ensures _ c.if-s-x.true in
-    record { answer = g.0; output = g.1 }
-
-pub cable_of-c-requires : goal.cable_of-c-requires
-cable_of-c-requires c = (sized _ _ _ (no_refusal _ _ c.check.ensures c.in_default.is) c.two-s.ensures c.two-l.ensures, c.two-l.ensures)
-
-pub returns-then-l-c : goal.returns-then-l-c
-returns-then-l-c c =
-    let g = pull_none _ _ _ _ c.check.ensures c.in_default.is _ _ c.two-s.ensures c.seek-x.ensures c.if-s-x.false _ _ _ c.cable_of-c.ensures c.two-l.ensures c.if-l-c.true in
-    record { answer = g.0; output = g.1 }
-
-pub returns-then-out-d : goal.returns-then-out-d
-returns-then-out-d c =
-    let g = pull_little _ _ _ _ c.check.ensures c.in_default.is _ _ c.two-s.ensures c.seek-x.ensures c.if-s-x.false _ _ _ c.cable_of-c.ensures c.two-l.ensures c.if-l-c.false c.if-out-d.true in
-    record { answer = g.0; output = g.1 }
-
-pub write_without-requires : goal.write_without-requires
-write_without-requires c =
-    let a = no_refusal _ _ c.check.ensures c.in_default.is in
-    let asks = pull_asks _ a _ _ c.two-s.ensures c.two-l.ensures _ c.if-l-c.false in
-    (sized _ _ _ a c.two-s.ensures c.two-l.ensures, c.two-l.ensures, asks.0, omega arith, asks.1, omega arith, omega (arith, a.size, c.two-s.ensures, c.two-l.ensures, c.if-out-d.false, c.if-l-c.false))
+pub returns-in_err-length : goal.returns-in_err-length
+returns-in_err-length c =
+    let same : c.net.inside.records ≡ c.args.d.now = c.net.view_is ∙ c.in_ok-net.ensures.bytes in
+    let p = err_from_is_err_and c.from_residual-in_err-length.result c.from_residual-in_err-length.ensures.1 in
+    let there = rw c.in_ok-net.ensures.bytes at c.in_ok-x.ensures.found in
+    let cable = rw same at c.in_ok-c.ensures.found in
+    let g = pull_little _ _ c.in_ok-net.ensures.answer there.0 _ _ _ there.1 cable.0 _ cable.1 (rw same at c.in_err-length.ensures.room) in
+    rw (p.1, p.2, c.in_err-length.ensures.ok.0, c.in_err-length.ensures.ok.1) (record { answer = g.0; output = g.1 })
 
 pub returns : goal.returns
 returns c =
-    let g = pull_written _ _ _ _ c.check.ensures c.in_default.is _ _ c.two-s.ensures c.seek-x.ensures c.if-s-x.false _ _ _ c.cable_of-c.ensures c.two-l.ensures c.if-l-c.false c.if-out-d.false _ _
-    c.write_without.ensures.answer c.write_without.ensures.output in
+    let same : c.net.inside.records ≡ c.args.d.now = c.net.view_is ∙ c.in_ok-net.ensures.bytes in
+    let there = rw c.in_ok-net.ensures.bytes at c.in_ok-x.ensures.found in
+    let cable = rw same at c.in_ok-c.ensures.found in
+    let written = rw same at c.in_ok-length.ensures.ok in
+    let g = pull_written _ _ c.in_ok-net.ensures.answer there.0 _ _ _ there.1 cable.0 _ cable.1 (rw same at c.in_ok-length.ensures.room) _ _ written.0 written.1 in
     record { answer = g.0; output = g.1 }

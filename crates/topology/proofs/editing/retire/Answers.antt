@@ -1,48 +1,42 @@
 -- A refusal is handed on or found; past them all the writer has written the rest.
-use Rattle.std.proofs.Common.{arith}
-use Rattle.topology.proofs.Handing.{no_refusal}
-use Rattle.topology.proofs.EditAnswers.{sized, retire_refused, retire_unknown, retire_only, retire_little, retire_written, retire_asks}
+use Rattle.std.proofs.Common.{◌≡◌, ◌∙◌, sym}
+use Rattle.std.proofs.lemmas.Result.{err_from_is_err_and}
+use Rattle.topology_rules.specs.Format.{switch_count}
+use Rattle.topology.proofs.EditAnswers.{retire_handed, retire_unknown, retire_only, retire_little, retire_written}
 use Rattle.topology.proofs.editing.retire.Goals as goal
 
-pub returns-in-Refused : goal.returns-in-Refused
-returns-in-Refused c =
-    let g = retire_refused _ _ _ _ c.check.ensures _ _ c.in-Refused.is in
-    record { answer = g.0; output = g.1 }
+pub returns-in_err-net : goal.returns-in_err-net
+returns-in_err-net c =
+    let p = err_from_is_err_and c.from_residual.result c.from_residual.ensures.1 in
+    let g = retire_handed _ _ _ c.in_err-net.ensures.answer _ in
+    rw (p.1, p.2) (record { answer = g.0; output = g.1 })
 
-pub two-s-requires : goal.two-s-requires
-two-s-requires c = omega (arith, (no_refusal _ _ c.check.ensures c.in_default.is).size)
+pub returns-in_err-x : goal.returns-in_err-x
+returns-in_err-x c =
+    let p = err_from_is_err_and c.from_residual-in_err-x.result c.from_residual-in_err-x.ensures.1 in
+    let g = retire_unknown _ _ c.in_ok-net.ensures.answer (rw c.in_ok-net.ensures.bytes at c.in_err-x.ensures.found) _ in
+    rw (p.1, p.2, c.in_err-x.ensures.missing) (record { answer = g.0; output = g.1 })
 
-pub two-l-requires : goal.two-l-requires
-two-l-requires c = omega (arith, (no_refusal _ _ c.check.ensures c.in_default.is).size)
+pub returns-then-switches-eq1 : goal.returns-then-switches-eq1
+returns-then-switches-eq1 c =
+    let there = rw c.in_ok-net.ensures.bytes at c.in_ok-x.ensures.found.0 in
+    let g = retire_only _ _ c.in_ok-net.ensures.answer there _ (rw c.in_ok-net.ensures.bytes at (sym c.switches.ensures.count.0 ∙ c.if-switches-eq1.true)) in
+    rw c.at.ensures (record { answer = g.0; output = g.1 })
 
-pub seek-x-requires : goal.seek-x-requires
-seek-x-requires c = (c.two-s.ensures, omega (arith, (no_refusal _ _ c.check.ensures c.in_default.is).size))
-
-pub returns-then-s-x : goal.returns-then-s-x
-returns-then-s-x c =
-    let g = retire_unknown _ _ _ _ c.check.ensures c.in_default.is _ _ c.two-s.ensures c.seek-x.ensures c.if-s-x.true in
-    record { answer = g.0; output = g.1 }
-
-pub returns-then-s-eq1 : goal.returns-then-s-eq1
-returns-then-s-eq1 c =
-    let g = retire_only _ _ _ _ c.check.ensures c.in_default.is _ _ c.two-s.ensures c.seek-x.ensures c.if-s-x.false c.if-s-eq1.true in
-    record { answer = g.0; output = g.1 }
-
-pub staying-k-requires : goal.staying-k-requires
-staying-k-requires c = sized _ _ _ (no_refusal _ _ c.check.ensures c.in_default.is) c.two-s.ensures c.two-l.ensures
-
-pub returns-then-out-s : goal.returns-then-out-s
-returns-then-out-s c =
-    let g = retire_little _ _ _ _ c.check.ensures c.in_default.is _ _ c.two-s.ensures c.seek-x.ensures c.if-s-x.false c.if-s-eq1.false _ _ c.two-l.ensures c.staying-k.ensures.0 c.if-out-s.true in
-    record { answer = g.0; output = g.1 }
-
-pub write_without-requires : goal.write_without-requires
-write_without-requires c =
-    let asks = retire_asks _ _ _ _ c.if-s-x.false c.if-out-s.false in
-    (sized _ _ _ (no_refusal _ _ c.check.ensures c.in_default.is) c.two-s.ensures c.two-l.ensures, c.two-l.ensures, asks.0, omega arith, c.staying-k.ensures.0, c.staying-k.ensures.1, asks.1)
+pub returns-in_err-length : goal.returns-in_err-length
+returns-in_err-length c =
+    let same : c.net.inside.records ≡ c.args.d.now = c.net.view_is ∙ c.in_ok-net.ensures.bytes in
+    let p = err_from_is_err_and c.from_residual-in_err-length.result c.from_residual-in_err-length.ensures.1 in
+    let there = rw c.in_ok-net.ensures.bytes at c.in_ok-x.ensures.found in
+    let more : switch_count c.args.d.now ≡ 1 → ⊥ = λ e. c.if-switches-eq1.false (c.switches.ensures.count.0 ∙ rw c.in_ok-net.ensures.bytes e) in
+    let g = retire_little _ _ c.in_ok-net.ensures.answer there.0 _ more _ there.1 (rw same at c.in_err-length.ensures.room) in
+    rw (p.1, p.2, c.in_err-length.ensures.ok.0, c.in_err-length.ensures.ok.1) (record { answer = g.0; output = g.1 })
 
 pub returns : goal.returns
 returns c =
-    let g = retire_written _ _ _ _ c.check.ensures c.in_default.is _ _ c.two-s.ensures c.seek-x.ensures c.if-s-x.false c.if-s-eq1.false _ _ c.two-l.ensures c.staying-k.ensures.0 c.if-out-s.false _ _
-    c.write_without.ensures.answer c.write_without.ensures.output in
+    let same : c.net.inside.records ≡ c.args.d.now = c.net.view_is ∙ c.in_ok-net.ensures.bytes in
+    let there = rw c.in_ok-net.ensures.bytes at c.in_ok-x.ensures.found in
+    let more : switch_count c.args.d.now ≡ 1 → ⊥ = λ e. c.if-switches-eq1.false (c.switches.ensures.count.0 ∙ rw c.in_ok-net.ensures.bytes e) in
+    let written = rw same at c.in_ok-length.ensures.ok in
+    let g = retire_written _ _ c.in_ok-net.ensures.answer there.0 _ more _ there.1 (rw same at c.in_ok-length.ensures.room) _ _ written.0 written.1 in
     record { answer = g.0; output = g.1 }

@@ -1,0 +1,59 @@
+// Levels, by rounds from all roots at once.
+ghost use Rattle.std.specs.Prelude.{◌≡◌, ℕ, ◌<◌, ◌≤◌, Some, None, cond, length, slice_index, slice_index_or, nat_eq};
+ghost use Rattle.topology_rules.specs.Format.{switch_count};
+ghost use Rattle.topology_rules.specs.Net.{net_of};
+ghost use Rattle.planner_rules.specs.Tree.{root as root_of, level as level_of};
+ghost use Rattle.planner.specs.Rows.{Tells};
+ghost use Rattle.planner.specs.Rounds.{in_turn, settled, settled_over};
+
+use topology::Net;
+
+// The levels before the first round: a root has level 0, and no other switch has one yet.
+fn first_levels(net: &Net<'_>, root: &[u8; 64]) -> [Option<u8>; 64]
+    ensures whole { length result ≡ 64 }
+    ensures each { (s : ℕ) → s < switch_count net.now → slice_index_or result s None ≡ cond (nat_eq (slice_index root.now s) s) (Some 0) None }
+{
+    let mut level = [None; 64];
+    for s in 0..net.switches() {
+        if root[s] as usize == s {
+            level[s] = Some(0);
+        }
+    }
+    level
+}
+
+// In round k: a takes the level k + 1 where it has none and b has k.
+fn settle(level: &mut [Option<u8>; 64], a: usize, b: usize, k: u8)
+    requires { (a < 64) × (b < 64) × (k < 64) }
+    ensures { level.new ≡ settled k a b level.old }
+{
+    if level[b] == Some(k) && level[a].is_none() {
+        level[a] = Some(k + 1);
+    }
+}
+
+// Every channel, in round k.
+fn round(net: &Net<'_>, level: &mut [Option<u8>; 64], k: u8)
+    requires { k < 64 }
+    ensures { level.new ≡ in_turn (net_of net.now).channels (settled_over (net_of net.now) k) level.old }
+{
+    for ch in 0..net.channels() {
+        settle(level, net.source(ch), net.target(ch), k);
+    }
+}
+
+// The level of every switch: the fewest cables to its root.
+pub fn levels(net: &Net<'_>, root: &[u8; 64]) -> [u8; 64]
+    requires { Tells (switch_count net.now) root.now (root_of (net_of net.now)) }
+    ensures { Tells (switch_count net.now) result (level_of (net_of net.now)) }
+{
+    let mut level = first_levels(net, root);
+    for k in 0..net.switches() as u8 {
+        if !level.contains(&Some(k)) {
+            break;
+        }
+        round(net, &mut level, k);
+    }
+    // The places past the last switch have no level.
+    level.map(|l| l.unwrap_or(0))
+}

@@ -1,0 +1,62 @@
+// The channel to each switch's parent.
+ghost use Rattle.std.specs.Prelude.{◌≡◌, ◌*◌, ◌<◌, IfSome};
+ghost use Rattle.topology_rules.specs.Format.{switch_count, cable_count};
+ghost use Rattle.topology_rules.specs.Net.{net_of};
+ghost use Rattle.planner_rules.specs.Tree.{level as level_of, preferred};
+ghost use Rattle.planner.specs.Rows.{Tells};
+ghost use Rattle.planner.specs.Choices.{leads_up, improves, chosen_over, Channels, Finds};
+
+use topology::Net;
+
+// Whether a channel leads one level lower.
+fn leads_up(net: &Net<'_>, level: &[u8; 64], ch: usize) -> bool
+    requires there { ch < 2 * cable_count net.now }
+    requires levels { Tells (switch_count net.now) level.now (level_of (net_of net.now)) }
+    ensures { result ≡ leads_up (net_of net.now) ch }
+{
+    level[net.target(ch)] as usize + 1 == level[net.source(ch)] as usize
+}
+
+// Whether channel a is preferred to b: the lower UID at its far end, then the lower port.
+fn comes_before(net: &Net<'_>, a: usize, b: usize) -> bool
+    requires { (a < 2 * cable_count net.now) × (b < 2 * cable_count net.now) }
+    ensures { result ≡ preferred (net_of net.now) a b }
+{
+    (net.uid(net.target(a)), net.port(a)) < (net.uid(net.target(b)), net.port(b))
+}
+
+// Whether a channel takes the place of the one kept so far.
+fn improves(net: &Net<'_>, kept: Option<u16>, ch: usize) -> bool
+    requires { (ch < 2 * cable_count net.now) × IfSome kept (λ k. k < 2 * cable_count net.now) }
+    ensures { result ≡ improves (net_of net.now) kept ch }
+{
+    match kept {
+        None => true,
+        Some(other) => comes_before(net, ch, other as usize),
+    }
+}
+
+// The switch that a channel leaves keeps it where it is the best so far.
+fn choose(best: &mut [Option<u16>; 64], net: &Net<'_>, level: &[u8; 64], ch: usize)
+    requires there { ch < 2 * cable_count net.now }
+    requires levels { Tells (switch_count net.now) level.now (level_of (net_of net.now)) }
+    requires kept { Channels net.now best.old }
+    ensures { best.new ≡ chosen_over (net_of net.now) ch best.old }
+{
+    let s = net.source(ch);
+    if leads_up(net, level, ch) && improves(net, best[s], ch) {
+        best[s] = Some(ch as u16);
+    }
+}
+
+// The channel over the parent cable of every switch; none for a root.
+pub fn parents(net: &Net<'_>, level: &[u8; 64]) -> [Option<u16>; 64]
+    requires { Tells (switch_count net.now) level.now (level_of (net_of net.now)) }
+    ensures { Finds net.now result }
+{
+    let mut best = [None; 64];
+    for ch in 0..net.channels() {
+        choose(&mut best, net, level, ch);
+    }
+    best
+}

@@ -1,0 +1,92 @@
+// Text as it is printed, byte after byte.
+ghost use Rattle.std.specs.Prelude.{◌≡◌, [], ◌∷◌, ◌++◌, ◌+◌, ◌<◌, ◌≤◌, length};
+ghost use Rattle.topology_rules.specs.Answers.{onto};
+ghost use Rattle.planner_rules.specs.Printed.{decimal, hex_digit, hex};
+
+use super::Plan;
+use std::marker::Model;
+
+/// At most as many bytes as a plan prints.
+#[derive(Drop)]
+pub struct Text {
+    bytes: [u8; Plan::CHARACTERS],
+    length: usize,
+}
+
+impl Model for Text {
+    ghost use Rattle.std.specs.Prelude.{ℕ, List, ◌≤◌, take};
+
+    ghost Value = { List ℕ };
+
+    ghost view = { λ t. take t.length t.bytes };
+
+    ghost invariant = { λ t. t.length ≤ 5452 };
+}
+
+// A hexadecimal digit: 0 to 9, then a to f.
+fn hex_digit(x: u8) -> u8
+    requires { x < 16 }
+    ensures { result ≡ hex_digit x }
+{
+    if x < 10 { b'0' + x } else { b'a' + (x - 10) }
+}
+
+impl Text {
+    pub fn new() -> Text
+        ensures { result ≡ [] }
+    {
+        Text {
+            bytes: [0; Plan::CHARACTERS],
+            length: 0,
+        }
+    }
+
+    // One byte.
+    pub fn push(&mut self, b: u8)
+        requires { length self.old < 5452 }
+        ensures { self.new ≡ self.old ++ b ∷ [] }
+    {
+        self.bytes[self.length] = b;
+        self.length += 1;
+    }
+
+    // The bytes w.
+    pub fn push_all(&mut self, w: &[u8])
+        requires { length self.old + length w.now ≤ 5452 }
+        ensures { self.new ≡ self.old ++ w.now }
+    {
+        let end = self.length + w.len();
+        self.bytes[self.length..end].copy_from_slice(w);
+        self.length = end;
+    }
+
+    // A number in decimal digits, with no zero before them.
+    pub fn decimal(&mut self, x: usize)
+        requires { length self.old + length (decimal x) ≤ 5452 }
+        ensures { self.new ≡ self.old ++ decimal x }
+    {
+        if x >= 10 {
+            self.decimal(x / 10);
+        }
+        self.push(b'0' + (x % 10) as u8);
+    }
+
+    // The lowest 12 hexadecimal digits of u, the highest first.
+    pub fn hex(&mut self, u: u64)
+        requires { length self.old + length (hex 12 u) ≤ 5452 }
+        ensures { self.new ≡ self.old ++ hex 12 u }
+    {
+        for place in (0..12u32).rev() {
+            self.push(hex_digit(((u >> (4 * place)) % 16) as u8));
+        }
+    }
+
+    // The text at the start of a buffer; its length.
+    pub fn copy_to(&self, out: &mut [u8; Plan::CHARACTERS]) -> usize
+        ensures answer { result ≡ length self.now }
+        ensures output { out.new ≡ onto self.now out.old }
+    {
+        out[..self.length].copy_from_slice(&self.bytes[..self.length]);
+        self.length
+    }
+}
