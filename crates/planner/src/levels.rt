@@ -6,14 +6,14 @@ ghost use Rattle.planner_rules.specs.Tree.{root as root_of, level as level_of};
 ghost use Rattle.planner.specs.Rows.{Tells};
 ghost use Rattle.planner.specs.Rounds.{in_turn, settled, settled_over};
 
-use topology::Net;
+use topology::{Net, Topology};
 
 // The levels before the first round: a root has level 0, and no other switch has one yet.
-fn first_levels(net: &Net<'_>, root: &[u8; 64]) -> [Option<u8>; 64]
+fn first_levels(net: &Net<'_>, root: &[u8; Topology::SWITCHES]) -> [Option<u8>; Topology::SWITCHES]
     ensures whole { length result ≡ 64 }
     ensures each { (s : ℕ) → s < switch_count net.now → slice_index_or result s None ≡ cond (nat_eq (slice_index root.now s) s) (Some 0) None }
 {
-    let mut level = [None; 64];
+    let mut level = [None; Topology::SWITCHES];
     for s in 0..net.switches() {
         if root[s] as usize == s {
             level[s] = Some(0);
@@ -23,7 +23,7 @@ fn first_levels(net: &Net<'_>, root: &[u8; 64]) -> [Option<u8>; 64]
 }
 
 // In round k: a takes the level k + 1 where it has none and b has k.
-fn settle(level: &mut [Option<u8>; 64], a: usize, b: usize, k: u8)
+fn settle(level: &mut [Option<u8>; Topology::SWITCHES], a: usize, b: usize, k: u8)
     requires { (a < 64) × (b < 64) × (k < 64) }
     ensures { level.new ≡ settled k a b level.old }
 {
@@ -33,7 +33,7 @@ fn settle(level: &mut [Option<u8>; 64], a: usize, b: usize, k: u8)
 }
 
 // Every channel, in round k.
-fn round(net: &Net<'_>, level: &mut [Option<u8>; 64], k: u8)
+fn round(net: &Net<'_>, level: &mut [Option<u8>; Topology::SWITCHES], k: u8)
     requires { k < 64 }
     ensures { level.new ≡ in_turn (net_of net.now).channels (settled_over (net_of net.now) k) level.old }
 {
@@ -43,7 +43,7 @@ fn round(net: &Net<'_>, level: &mut [Option<u8>; 64], k: u8)
 }
 
 // The level of every switch: the fewest cables to its root.
-pub fn levels(net: &Net<'_>, root: &[u8; 64]) -> [u8; 64]
+pub fn levels(net: &Net<'_>, root: &[u8; Topology::SWITCHES]) -> [u8; Topology::SWITCHES]
     requires { Tells (switch_count net.now) root.now (root_of (net_of net.now)) }
     ensures { Tells (switch_count net.now) result (level_of (net_of net.now)) }
 {

@@ -6,10 +6,10 @@ ghost use Rattle.planner_rules.specs.Tree.{level as level_of, preferred};
 ghost use Rattle.planner.specs.Rows.{Tells};
 ghost use Rattle.planner.specs.Choices.{leads_up, improves, chosen_over, Channels, Finds};
 
-use topology::Net;
+use topology::{Net, Topology};
 
 // Whether a channel leads one level lower.
-fn leads_up(net: &Net<'_>, level: &[u8; 64], ch: usize) -> bool
+fn leads_up(net: &Net<'_>, level: &[u8; Topology::SWITCHES], ch: usize) -> bool
     requires there { ch < 2 * cable_count net.now }
     requires levels { Tells (switch_count net.now) level.now (level_of (net_of net.now)) }
     ensures { result ≡ leads_up (net_of net.now) ch }
@@ -37,7 +37,12 @@ fn improves(net: &Net<'_>, kept: Option<u16>, ch: usize) -> bool
 }
 
 // The switch that a channel leaves keeps it where it is the best so far.
-fn choose(best: &mut [Option<u16>; 64], net: &Net<'_>, level: &[u8; 64], ch: usize)
+fn choose(
+    best: &mut [Option<u16>; Topology::SWITCHES],
+    net: &Net<'_>,
+    level: &[u8; Topology::SWITCHES],
+    ch: usize,
+)
     requires there { ch < 2 * cable_count net.now }
     requires levels { Tells (switch_count net.now) level.now (level_of (net_of net.now)) }
     requires kept { Channels net.now best.old }
@@ -50,11 +55,11 @@ fn choose(best: &mut [Option<u16>; 64], net: &Net<'_>, level: &[u8; 64], ch: usi
 }
 
 // The channel over the parent cable of every switch; none for a root.
-pub fn parents(net: &Net<'_>, level: &[u8; 64]) -> [Option<u16>; 64]
+pub fn parents(net: &Net<'_>, level: &[u8; Topology::SWITCHES]) -> [Option<u16>; Topology::SWITCHES]
     requires { Tells (switch_count net.now) level.now (level_of (net_of net.now)) }
     ensures { Finds net.now result }
 {
-    let mut best = [None; 64];
+    let mut best = [None; Topology::SWITCHES];
     for ch in 0..net.channels() {
         choose(&mut best, net, level, ch);
     }

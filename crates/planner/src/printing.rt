@@ -7,6 +7,7 @@ ghost use Rattle.planner_rules.specs.Table.{holder};
 ghost use Rattle.planner_rules.specs.Printed.{space, refused_word, decimal, line, switch_line, link_line, printed};
 ghost use Rattle.planner.specs.Lines.{field_text, switch_lines, link_lines};
 
+use super::Plan;
 use crate::text::Text;
 use crate::tree::Tree;
 use topology::Refusal;
@@ -20,7 +21,7 @@ enum Field {
 
 // A space and a field.
 fn put_field(text: &mut Text, f: Field)
-    requires { length text.old + length (space ∷ field_text f) ≤ 5452 }
+    requires { length text.old + length (space ∷ field_text f) ≤ Plan.CHARACTERS }
     ensures { text.new ≡ text.old ++ space ∷ field_text f }
 {
     text.push(b' ');
@@ -32,7 +33,7 @@ fn put_field(text: &mut Text, f: Field)
 
 // A word, its fields, and the end of the line.
 fn line(text: &mut Text, word: &[u8], fs: &[Field])
-    requires { length text.old + length (line word.now (map field_text fs.now)) ≤ 5452 }
+    requires { length text.old + length (line word.now (map field_text fs.now)) ≤ Plan.CHARACTERS }
     ensures { text.new ≡ text.old ++ line word.now (map field_text fs.now) }
 {
     text.push_all(word);
@@ -44,7 +45,7 @@ fn line(text: &mut Text, word: &[u8], fs: &[Field])
 
 // The line of the switch with number k.
 fn switch_line(text: &mut Text, tree: &Tree<'_>, k: usize)
-    requires { (holder (net_of tree.now) k < switch_count tree.now) × (length text.old + length (switch_line (net_of tree.now) k) ≤ 5452) }
+    requires { (holder (net_of tree.now) k < switch_count tree.now) × (length text.old + length (switch_line (net_of tree.now) k) ≤ Plan.CHARACTERS) }
     ensures { text.new ≡ text.old ++ switch_line (net_of tree.now) k }
 {
     let s = tree.holder(k);
@@ -59,7 +60,7 @@ fn switch_line(text: &mut Text, tree: &Tree<'_>, k: usize)
 
 // The line of cable c.
 fn link_line(text: &mut Text, tree: &Tree<'_>, c: usize)
-    requires { (c < cable_count tree.now) × (length text.old + length (link_line (net_of tree.now) c) ≤ 5452) }
+    requires { (c < cable_count tree.now) × (length text.old + length (link_line (net_of tree.now) c) ≤ Plan.CHARACTERS) }
     ensures { text.new ≡ text.old ++ link_line (net_of tree.now) c }
 {
     let fields = [Field::Number(c), Field::Number(tree.up_number(c) as usize)];
@@ -68,7 +69,7 @@ fn link_line(text: &mut Text, tree: &Tree<'_>, c: usize)
 
 // The lines of the switches, in number order.
 fn switch_lines(text: &mut Text, tree: &Tree<'_>)
-    requires { length text.old + length (switch_lines tree.now) ≤ 5452 }
+    requires { length text.old + length (switch_lines tree.now) ≤ Plan.CHARACTERS }
     ensures { text.new ≡ text.old ++ switch_lines tree.now }
 {
     for k in 1..=tree.switches() {
@@ -78,7 +79,7 @@ fn switch_lines(text: &mut Text, tree: &Tree<'_>)
 
 // The lines of the cables, in record order.
 fn link_lines(text: &mut Text, tree: &Tree<'_>)
-    requires { length text.old + length (link_lines tree.now) ≤ 5452 }
+    requires { length text.old + length (link_lines tree.now) ≤ Plan.CHARACTERS }
     ensures { text.new ≡ text.old ++ link_lines tree.now }
 {
     for c in 0..tree.cables() {

@@ -6,7 +6,7 @@ ghost use Rattle.planner_rules.specs.Printed.{decimal, hex_digit, hex};
 use super::Plan;
 use std::marker::Model;
 
-/// At most as many bytes as a plan prints.
+/// At most as many bytes as a plan prints, in a fixed buffer: the planner allocates nothing. `fmt::Write` promises what it wrote only where it succeeds, and `print` cannot fail, so digits are written here.
 #[derive(Drop)]
 pub struct Text {
     bytes: [u8; Plan::CHARACTERS],
@@ -43,7 +43,7 @@ impl Text {
 
     // One byte.
     pub fn push(&mut self, b: u8)
-        requires { length self.old < 5452 }
+        requires { length self.old < Plan.CHARACTERS }
         ensures { self.new ≡ self.old ++ b ∷ [] }
     {
         self.bytes[self.length] = b;
@@ -52,7 +52,7 @@ impl Text {
 
     // The bytes w.
     pub fn push_all(&mut self, w: &[u8])
-        requires { length self.old + length w.now ≤ 5452 }
+        requires { length self.old + length w.now ≤ Plan.CHARACTERS }
         ensures { self.new ≡ self.old ++ w.now }
     {
         let end = self.length + w.len();
@@ -62,7 +62,7 @@ impl Text {
 
     // A number in decimal digits, with no zero before them.
     pub fn decimal(&mut self, x: usize)
-        requires { length self.old + length (decimal x) ≤ 5452 }
+        requires { length self.old + length (decimal x) ≤ Plan.CHARACTERS }
         ensures { self.new ≡ self.old ++ decimal x }
     {
         if x >= 10 {
@@ -73,7 +73,7 @@ impl Text {
 
     // The lowest 12 hexadecimal digits of u, the highest first.
     pub fn hex(&mut self, u: u64)
-        requires { length self.old + length (hex 12 u) ≤ 5452 }
+        requires { length self.old + length (hex 12 u) ≤ Plan.CHARACTERS }
         ensures { self.new ≡ self.old ++ hex 12 u }
     {
         for place in (0..12u32).rev() {

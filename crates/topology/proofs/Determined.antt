@@ -6,7 +6,7 @@ use native.Mathlib.Omega.{arith}
 use lib.ListN.{get_or}
 use lib.Dec.{lit<}
 use Rattle.topology_rules.specs.Check.{verdict}
-use Rattle.topology_rules.specs.Answers.{Reply, done, refused, Outcome}
+use Rattle.topology_rules.specs.Answers.{Outcome}
 use Rattle.topology_rules.specs.Edit.{find_reply, retire, pull}
 use Rattle.topology.specs.Reasons.{number_of, refusal_of, verdict_of, reply_of}
 use Rattle.topology.specs.declared.refusal.Reason.{Reason}
@@ -59,22 +59,12 @@ some_number r = (named r).1
 pub refusal_once : (r q : Refusal) → refusal_of r ≡ refusal_of q → r ≡ q
 refusal_once r q e = ap₂ (λ (k : Reason) (i : ℕ). record { reason = k; position = i }) (one_number r.reason q.reason (ap (λ v. v.number) e)) (ap (λ v. v.position) e)
 
--- the number and position of a reply, or what it returns
-number_in : Reply → ℕ
-number_in (done x) = 0
-number_in (refused v) = v.number
-
-value_in : Reply → ℕ
-value_in (done x) = x
-value_in (refused v) = v.position
-
 -- Two answers that say the same are the same.
 pub reply_once : (r q : Result ℕ Refusal) → reply_of r ≡ reply_of q → r ≡ q
-unfolding number_in value_in
-reply_once (Ok i) (Ok j) e = ap Ok (ap value_in e)
-reply_once (Ok i) (Err q) e = absurd (omega (arith, some_number q.reason, ap number_in e))
-reply_once (Err r) (Ok j) e = absurd (omega (arith, some_number r.reason, ap number_in e))
-reply_once (Err r) (Err q) e = ap Err (refusal_once r q (ap₂ (λ (k i : ℕ). record { number = k; position = i }) (ap number_in e) (ap value_in e)))
+reply_once (Ok i) (Ok j) e = cc
+reply_once (Ok i) (Err q) e = absurd cc
+reply_once (Err r) (Ok j) e = absurd cc
+reply_once (Err r) (Err q) e = ap Err (refusal_once r q cc)
 
 -- what the check's promise says of its answer: the verdict, and the net that is the description
 abbrev Checks : List ℕ → Result (List ℕ) Refusal → Type 0

@@ -11,6 +11,9 @@ use super::Topology;
 use super::refusal::{Reason, Refusal};
 use std::marker::Model;
 
+// The letters that a description opens with.
+pub(crate) const MARK: &[u8; 3] = b"UDR";
+
 // The mark, the version and the two counts.
 const HEADER: usize = 9;
 
@@ -70,7 +73,7 @@ fn mark_differs(d: &[u8]) -> bool
     requires { 2 < length d.now }
     ensures { result ≡ mark_differs d.now }
 {
-    !d.starts_with(b"UDR")
+    !d.starts_with(MARK)
 }
 
 // 4: no switch, or too many.

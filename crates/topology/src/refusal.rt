@@ -38,7 +38,7 @@ pub struct Refusal {
 
 impl Reason {
     // Refused for this reason at record i.
-    pub fn at(self, i: usize) -> Refusal
+    pub(crate) fn at(self, i: usize) -> Refusal
         requires { i < 2 ^ 16 }
         ensures { result ≡ record { reason = self; position = i } }
     {

@@ -9,7 +9,7 @@ ghost use Rattle.topology.specs.Inside.{Written};
 ghost use Rattle.topology.specs.Omitted.{IsThere, cable_stays, position, staying_switches, staying_cables, without as without_of};
 
 use super::omitted::Omitted;
-use super::records::Records;
+use super::records::{MARK, Records};
 use super::refusal::Reason;
 
 // The mark, version 1, and the two counts.
@@ -17,9 +17,10 @@ fn header(switches: usize, cables: usize) -> [u8; 9]
     requires { (switches ≤ 64) × (cables ≤ 384) }
     ensures { result ≡ header switches cables }
 {
-    let [s, t] = (switches as u16).to_be_bytes();
-    let [l, m] = (cables as u16).to_be_bytes();
-    [b'U', b'D', b'R', 0, 1, s, t, l, m]
+    let [u, d, r] = *MARK;
+    let [s_high, s_low] = (switches as u16).to_be_bytes();
+    let [l_high, l_low] = (cables as u16).to_be_bytes();
+    [u, d, r, 0, 1, s_high, s_low, l_high, l_low]
 }
 
 impl<'a> Records<'a> {
@@ -43,7 +44,7 @@ impl<'a> Records<'a> {
         }
     }
 
-    // How many cables have no end at switch x.
+    // How many cables have no end at switch x. `filter().count()` over the range was tried: what it counts was not proved.
     fn clear_cables(&self, x: usize) -> usize
         ensures { (result ≡ length (clear_cables_of self.now x)) × (result ≤ 384) }
     {
@@ -113,7 +114,7 @@ impl<'a> Records<'a> {
         at
     }
 
-    // The cable records that stay, from `from` on; where they end.
+    // The cable records that stay, from `from` on; where they end. One function for both kinds of record would take a closure for the test and one for the record, and be no plainer.
     fn put_cables(&self, without: Omitted, out: &mut [u8], from: usize) -> usize
         requires { from + 4 * length (staying_cables self.now without) ≤ length out.old }
         ensures { Written out.old from (records (cable_record self.now (position without)) (staying_cables self.now without)) out.new result }
