@@ -15,7 +15,7 @@ fn packed(answer: Result<usize, Refusal>) -> u64
 {
     match answer {
         Ok(n) => n as u64,
-        Err(r) => (u16::from(r.reason) as u64) * 4294967296 + r.position as u64,
+        Err(r) => ((u16::from(r.reason) as u64) << 32) + r.position as u64,
     }
 }
 

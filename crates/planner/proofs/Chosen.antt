@@ -140,28 +140,28 @@ module _ (n : Net) where
         let e : parent_channel n s ≡ ch = one_parent n w s (parent_channel n s) ch (parent_is n w s h (omega (arith, p.rising.lower))) p in
         rw (e, lt-ltb ch n.channels p.rising.is_live) refl
 
--- The channels of an accepted description.
-module _ (d : List ℕ) (a : Accepted d) where
+-- The channels of an accepted description: r as it was read, d as it is seen.
+module _ (r d : List ℕ) (seen : r ≡ d) (a : Accepted r) where
   -- its net is well formed
-  abbrev w : WellFormed (net_of d)
-  w = well_formed d a
+  w : WellFormed (net_of d)
+  w = well_formed d (rw seen at a)
 
   -- before the first
   pub none_chosen : Chosen (net_of d) 0 (replicate 64 None)
   none_chosen = chosen_start (net_of d) w
 
-  module _ (i : ℕ) (h : i < 2 * cable_count d) (g : List (Option ℕ)) (c : Chosen (net_of d) i g) where
+  module _ (i : ℕ) (h : i < 2 * cable_count r) (g : List (Option ℕ)) (c : Chosen (net_of d) i g) where
     -- what is kept are channels
     pub kept_channels : Channels d g
     unfolding net_of
-    kept_channels = chosen_channel (net_of d) w i h g c
+    kept_channels = chosen_channel (net_of d) w i (rw seen at h) g c
 
     -- one more
     pub chosen_next : (f : List (Option ℕ)) → f ≡ chosen_over (net_of d) i g → Chosen (net_of d) (i + 1) f
     unfolding net_of
-    chosen_next f e = subst (λ k. Chosen (net_of d) k f) (sym (add-one i)) (rw e (chosen_step (net_of d) w i h g c))
+    chosen_next f e = subst (λ k. Chosen (net_of d) k f) (sym (add-one i)) (rw e (chosen_step (net_of d) w i (rw seen at h) g c))
 
   -- after the last
-  pub all_chosen : (i : ℕ) (g : List (Option ℕ)) → i ≡ 2 * cable_count d → Chosen (net_of d) i g → Finds d g
+  pub all_chosen : (i : ℕ) (g : List (Option ℕ)) → i ≡ 2 * cable_count r → Chosen (net_of d) i g → Finds d g
   unfolding net_of
-  all_chosen i g e c s h = best_parent (net_of d) w s (get_or g s None) h (rw e at (c.each s h))
+  all_chosen i g e c s h = best_parent (net_of d) w s (get_or g s None) h (rw (e, seen) at (c.each s h))

@@ -77,10 +77,6 @@ module _ (u : ℕ) where
         let last : left - 1 + 1 ≡ left = omega arith in
         rw (more, hex_more (12 - left) (left - 1), last, pushed, done, digit) (append_assoc o _ _)
 
-    -- all of them
-    pub hex_ended : left ≡ 0 → t ≡ o ++ hex 12 u
-    hex_ended e = let one : u / 1 ≡ u = omega arith in rw one at (rw e at done)
-
 -- Decimal digits after o: t has all digits of x but the last, and s has all.
 module _ (o : List ℕ) (x : ℕ) where
   -- room for all is more than room for all but the last

@@ -24,18 +24,18 @@ use Rattle.planner_rules.proofs.Levels.{level_bound, level_rise, at_root, below_
 use Rattle.planner_rules.proofs.Parents.{some_rises}
 
 -- the test for level k as a fact
-pub holds : (o : Option ℕ) (k : ℕ) → T (option_eq eqb o (Some k)) → o ≡ Some k
-holds None k t = absurd t
-holds (Some j) k t = ap Some (eqb→eq j k t)
+pub option_eq→eq : (o : Option ℕ) (k : ℕ) → T (option_eq eqb o (Some k)) → o ≡ Some k
+option_eq→eq None k t = absurd t
+option_eq→eq (Some j) k t = ap Some (eqb→eq j k t)
 
 -- ... and back
-pub held : (o : Option ℕ) (k : ℕ) → o ≡ Some k → T (option_eq eqb o (Some k))
-held None k e = absurd cc
-held (Some j) k e = eq→eqb j k cc
+pub eq→option_eq : (o : Option ℕ) (k : ℕ) → o ≡ Some k → T (option_eq eqb o (Some k))
+eq→option_eq None k e = absurd cc
+eq→option_eq (Some j) k e = eq→eqb j k cc
 
 -- where the test fails, the level is another
 pub none_has : (f : List (Option ℕ)) (k s : ℕ) → option_eq eqb (get_or f s None) (Some k) ≡ false → get_or f s None ≡ Some k → ⊥
-none_has f k s d e = rw d at (held (get_or f s None) k e)
+none_has f k s d e = rw d at (eq→option_eq (get_or f s None) k e)
 
 -- the test for no level as a fact
 pub vacant : (o : Option ℕ) → T (not (is_some o)) → o ≡ None
@@ -111,8 +111,8 @@ module _ (n : Net) where
       round_next : (i : ℕ) (g : List (Option ℕ)) → i < n.channels → Round k i g → Round k (suc i) (settled_over n k i g)
       round_next i g h p =
           choose_cond (Round k (suc i)) (both (has_level g y k) (not (is_settled g x))) (set g x (Some (k + 1))) g
-          (λ t. let (e, d) = both_T (has_level g y k) (not (is_settled g x)) t in taken (holds (get_or g y None) k e) (vacant (get_or g x None) d))
-          (λ t. left (λ e d. t (T_both (has_level g y k) (not (is_settled g x)) (held (get_or g y None) k e) (left_vacant (get_or g x None) d))))
+          (λ t. let (e, d) = both_T (has_level g y k) (not (is_settled g x)) t in taken (option_eq→eq (get_or g y None) k e) (vacant (get_or g x None) d))
+          (λ t. left (λ e d. t (T_both (has_level g y k) (not (is_settled g x)) (eq→option_eq (get_or g y None) k e) (left_vacant (get_or g x None) d))))
         where
           x : ℕ
           x = n.source i

@@ -1,5 +1,5 @@
 -- What a loop changes and tests step by step.
-use Prim.Native.Nat.{ℕ, suc, zero, ◌+◌, ◌≤◌, ◌<◌}
+use Prim.Native.Nat.{ℕ, suc, zero, ◌+◌, ◌<◌}
 use mathlib.Core.Path.{◌≡◌, refl, ap, ◌∙◌}
 use mathlib.Core.Logic.{◌⊎◌, inl, inr}
 use mathlib.Core.List.{List}
@@ -38,10 +38,6 @@ module _ {A : Type 0} where
     unfolding in_turn
     turn_next f₀ f g i e h = rw add-one (h ∙ ap (step i) e)
 
-    -- as many steps as there are
-    pub turn_last : (f g : A) (i k : ℕ) → i ≤ k → k ≤ i → g ≡ in_turn i step f → g ≡ in_turn k step f
-    turn_last f g i k h l e = let s : k ≡ i = omega arith in rw s e
-
     -- what holds at the start and is kept by each step holds at the end
     pub turn_keeps : (P : ℕ → A → Type 0) (k : ℕ) (f : A) → P 0 f → ((i : ℕ) (g : A) → i < k → P i g → P (suc i) (step i g)) → P k (in_turn k step f)
     unfolding in_turn
@@ -63,10 +59,6 @@ module _ (f : ℕ → Bool) where
       go : (b : Bool) → (b || f k) ≡ elim b [ true ↦ true | false ↦ f k ]
       go true = refl
       go false = refl
-
-  -- as many as there are
-  pub any_last : (i k : ℕ) (c : Bool) → i ≤ k → k ≤ i → c ≡ any i f → c ≡ any k f
-  any_last i k c h l e = let s : k ≡ i = omega arith in rw s e
 
   -- where none of suc k passes, no earlier one does, nor the last
   pub none_passes : (k : ℕ) → any (suc k) f ≡ false → (any k f ≡ false) × (f k ≡ false)

@@ -5,14 +5,10 @@ use mathlib.Core.List.{List}
 use mathlib.Core.Bool.{Bool, true, false, cond}
 use borrow.Author.Tests.{ltb-true}
 use Rattle.std.specs.Prelude.{Option, Some, None}
-use Rattle.topology_rules.specs.Format.{switch_count, cable_count}
-use Rattle.topology_rules.specs.Accepted.{Accepted}
+use Rattle.topology_rules.specs.Format.{cable_count}
 use Rattle.topology_rules.specs.Net.{Net, net_of, target, live}
 use Rattle.planner_rules.specs.Tree.{parent_channel, parent_number, parent_port, above, up, up_end}
-use Rattle.planner_rules.specs.Table.{holder}
 use Rattle.planner.specs.Choices.{parent_of}
-use Rattle.topology_rules.proofs.Soundness.{well_formed}
-use Rattle.planner_rules.proofs.Addresses.{holder_is}
 
 -- a channel is kept only where one is live
 some_kept : (t : Bool) (p ch : ℕ) → cond t (Some p) None ≡ Some ch → (t ≡ true) × (p ≡ ch)
@@ -77,19 +73,3 @@ module _ (r d : List ℕ) (seen : r ≡ d) (c : ℕ) {one other x y : ℕ} (from
   pub up_at_source : above (net_of d) other one ≡ false → x ≡ one → y ≡ (net_of d).number (up_end (net_of d) c)
   unfolding up up_end
   up_at_source t e = let t' = rw (from, to, seen) at t in rw t' (number ∙ ap (net_of d).number (e ∙ rw seen at from))
-
--- The holder of number k, where there is one.
-module _ (r d : List ℕ) (seen : r ≡ d) (k : ℕ) (held : holder (net_of d) k < switch_count d) where
-  -- the holder has the number
-  number_held : (net_of d).number (holder (net_of d) k) ≡ k
-  unfolding net_of
-  number_held = holder_is (net_of d) k held
-
-  -- no other switch has it
-  pub holds : Accepted r → (s : ℕ) → s < switch_count r → (net_of d).number s ≡ k → s ≡ holder (net_of d) k
-  unfolding net_of
-  holds a s h e = (well_formed d (rw seen at a)).numbers_differ s (holder (net_of d) k) (rw seen at h) held (e ∙ sym number_held)
-
-  -- it is among the switches
-  pub not_passed : {A : Type 0} (i : ℕ) → i ≡ switch_count r → ((s : ℕ) → s < i → (net_of d).number s ≡ k → ⊥) → A
-  not_passed i e none = absurd (none (holder (net_of d) k) (rw (e, seen) held) number_held)

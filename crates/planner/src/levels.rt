@@ -1,12 +1,34 @@
 // Levels, by rounds from all roots at once.
-ghost use Rattle.std.specs.Prelude.{◌≡◌, ℕ, ◌<◌, ◌≤◌, Some, None, cond, length, slice_index, slice_index_or, nat_eq};
+ghost use Rattle.std.specs.Prelude.{◌≡◌, ℕ, ◌<◌, Some, None, cond, length, slice_index, slice_index_or, nat_eq};
 ghost use Rattle.topology_rules.specs.Format.{switch_count};
 ghost use Rattle.topology_rules.specs.Net.{net_of};
-ghost use Rattle.planner_rules.specs.Tree.{root as root_of, level as level_of};
-ghost use Rattle.planner.specs.Rows.{Tells};
+ghost use Rattle.planner_rules.specs.Tree.{level as level_of};
 ghost use Rattle.planner.specs.Rounds.{in_turn, settled, settled_over};
 
+use crate::roots::roots;
+use std::marker::Model;
 use topology::{Net, Topology};
+
+/// A net with the level of each of its switches.
+#[derive(Drop)]
+pub struct Levels<'a> {
+    net: &'a Net<'a>,
+    level: [u8; Topology::SWITCHES],
+}
+
+impl<'a> Model for Levels<'a> {
+    ghost use Rattle.std.specs.Prelude.{ℕ, List, ◌≤◌};
+    ghost use Rattle.topology_rules.specs.Format.{switch_count};
+    ghost use Rattle.topology_rules.specs.Net.{net_of};
+    ghost use Rattle.planner_rules.specs.Tree.{level as level_of};
+    ghost use Rattle.planner.specs.Rows.{Tells};
+
+    ghost Value = { List ℕ };
+
+    ghost view = { λ l. l.net.now };
+
+    ghost invariant = { λ l. (switch_count l.net.now ≤ 64) × Tells (switch_count l.net.now) l.level (level_of (net_of l.net.now)) };
+}
 
 // The levels before the first round: a root has level 0, and no other switch has one yet.
 fn first_levels(net: &Net<'_>, root: &[u8; Topology::SWITCHES]) -> [Option<u8>; Topology::SWITCHES]
@@ -42,18 +64,36 @@ fn round(net: &Net<'_>, level: &mut [Option<u8>; Topology::SWITCHES], k: u8)
     }
 }
 
-// The level of every switch: the fewest cables to its root.
-pub fn levels(net: &Net<'_>, root: &[u8; Topology::SWITCHES]) -> [u8; Topology::SWITCHES]
-    requires { Tells (switch_count net.now) root.now (root_of (net_of net.now)) }
-    ensures { Tells (switch_count net.now) result (level_of (net_of net.now)) }
-{
-    let mut level = first_levels(net, root);
-    for k in 0..net.switches() as u8 {
-        if !level.contains(&Some(k)) {
-            break;
+impl<'a> Levels<'a> {
+    /// A net with its levels: of every switch the fewest cables to its root.
+    pub fn new(net: &'a Net<'a>) -> Levels<'a>
+        ensures { result ≡ net.now }
+    {
+        let root = roots(net);
+        let mut level = first_levels(net, &root);
+        for k in 0..net.switches() as u8 {
+            if !level.contains(&Some(k)) {
+                break;
+            }
+            round(net, &mut level, k);
         }
-        round(net, &mut level, k);
+        // The places past the last switch have no level.
+        let level = level.map(|l| l.unwrap_or(0));
+        Levels { net, level }
     }
-    // The places past the last switch have no level.
-    level.map(|l| l.unwrap_or(0))
+
+    /// The net.
+    pub fn net(&self) -> &'a Net<'a>
+        ensures { result.now ≡ self.now }
+    {
+        self.net
+    }
+
+    /// The level of switch s.
+    pub fn of(&self, s: usize) -> u8
+        requires { s < switch_count self.now }
+        ensures { result ≡ level_of (net_of self.now) s }
+    {
+        self.level[s]
+    }
 }

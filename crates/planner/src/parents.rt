@@ -1,20 +1,20 @@
 // The channel to each switch's parent.
 ghost use Rattle.std.specs.Prelude.{◌≡◌, ◌*◌, ◌<◌, IfSome};
-ghost use Rattle.topology_rules.specs.Format.{switch_count, cable_count};
+ghost use Rattle.topology_rules.specs.Format.{cable_count};
 ghost use Rattle.topology_rules.specs.Net.{net_of};
-ghost use Rattle.planner_rules.specs.Tree.{level as level_of, preferred};
-ghost use Rattle.planner.specs.Rows.{Tells};
+ghost use Rattle.planner_rules.specs.Tree.{preferred};
 ghost use Rattle.planner.specs.Choices.{leads_up, improves, chosen_over, Channels, Finds};
 
+use crate::levels::Levels;
 use topology::{Net, Topology};
 
 // Whether a channel leads one level lower.
-fn leads_up(net: &Net<'_>, level: &[u8; Topology::SWITCHES], ch: usize) -> bool
-    requires there { ch < 2 * cable_count net.now }
-    requires levels { Tells (switch_count net.now) level.now (level_of (net_of net.now)) }
-    ensures { result ≡ leads_up (net_of net.now) ch }
+fn leads_up(levels: &Levels<'_>, ch: usize) -> bool
+    requires { ch < 2 * cable_count levels.now }
+    ensures { result ≡ leads_up (net_of levels.now) ch }
 {
-    level[net.target(ch)] as usize + 1 == level[net.source(ch)] as usize
+    let net = levels.net();
+    levels.of(net.target(ch)) as usize + 1 == levels.of(net.source(ch)) as usize
 }
 
 // Whether channel a is preferred to b: the lower UID at its far end, then the lower port.
@@ -37,31 +37,25 @@ fn improves(net: &Net<'_>, kept: Option<u16>, ch: usize) -> bool
 }
 
 // The switch that a channel leaves keeps it where it is the best so far.
-fn choose(
-    best: &mut [Option<u16>; Topology::SWITCHES],
-    net: &Net<'_>,
-    level: &[u8; Topology::SWITCHES],
-    ch: usize,
-)
-    requires there { ch < 2 * cable_count net.now }
-    requires levels { Tells (switch_count net.now) level.now (level_of (net_of net.now)) }
-    requires kept { Channels net.now best.old }
-    ensures { best.new ≡ chosen_over (net_of net.now) ch best.old }
+fn choose(best: &mut [Option<u16>; Topology::SWITCHES], levels: &Levels<'_>, ch: usize)
+    requires there { ch < 2 * cable_count levels.now }
+    requires kept { Channels levels.now best.old }
+    ensures { best.new ≡ chosen_over (net_of levels.now) ch best.old }
 {
+    let net = levels.net();
     let s = net.source(ch);
-    if leads_up(net, level, ch) && improves(net, best[s], ch) {
+    if leads_up(levels, ch) && improves(net, best[s], ch) {
         best[s] = Some(ch as u16);
     }
 }
 
 // The channel over the parent cable of every switch; none for a root.
-pub fn parents(net: &Net<'_>, level: &[u8; Topology::SWITCHES]) -> [Option<u16>; Topology::SWITCHES]
-    requires { Tells (switch_count net.now) level.now (level_of (net_of net.now)) }
-    ensures { Finds net.now result }
+pub fn parents(levels: &Levels<'_>) -> [Option<u16>; Topology::SWITCHES]
+    ensures { Finds levels.now result }
 {
     let mut best = [None; Topology::SWITCHES];
-    for ch in 0..net.channels() {
-        choose(&mut best, net, level, ch);
+    for ch in 0..levels.net().channels() {
+        choose(&mut best, levels, ch);
     }
     best
 }

@@ -9,8 +9,6 @@ ghost use Rattle.planner.specs.Rounds.{Row, in_turn, lowers, lowers_over, lifted
 
 use topology::{Net, Topology};
 
-// Rows have an entry for each switch that there can be: the planner allocates nothing.
-
 // The root of a becomes that of b where that has the lower UID; whether it did.
 fn lift(net: &Net<'_>, root: &mut [u8; Topology::SWITCHES], a: usize, b: usize) -> bool
     requires { (a < switch_count net.now) × (b < switch_count net.now) × Row (switch_count net.now) root.old }
@@ -41,7 +39,7 @@ fn lift_all(net: &Net<'_>, root: &mut [u8; Topology::SWITCHES]) -> bool
     changed
 }
 
-// Each switch is its own root.
+// Each switch is its own root. A row has an entry for each switch that there can be, as nothing is allocated.
 fn own_roots(net: &Net<'_>) -> [u8; Topology::SWITCHES]
     ensures { (length result ≡ 64) × Tells (switch_count net.now) result (λ s. s) }
 {

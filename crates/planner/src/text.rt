@@ -4,23 +4,21 @@ ghost use Rattle.topology_rules.specs.Answers.{onto};
 ghost use Rattle.planner_rules.specs.Printed.{decimal, hex_digit, hex};
 
 use super::Plan;
+use arrayvec::ArrayVec;
 use std::marker::Model;
 
-/// At most as many bytes as a plan prints, in a fixed buffer: the planner allocates nothing. `fmt::Write` promises what it wrote only where it succeeds, and `print` cannot fail, so digits are written here.
+/// At most as many bytes as a plan prints, in a vector that never allocates. `fmt::Write` promises what it wrote only where it succeeds, and `print` cannot fail, so digits are written here.
 #[derive(Drop)]
 pub struct Text {
-    bytes: [u8; Plan::CHARACTERS],
-    length: usize,
+    bytes: ArrayVec<u8, { Plan::CHARACTERS }>,
 }
 
 impl Model for Text {
-    ghost use Rattle.std.specs.Prelude.{ℕ, List, ◌≤◌, take};
+    ghost use Rattle.std.specs.Prelude.{ℕ, List};
 
     ghost Value = { List ℕ };
 
-    ghost view = { λ t. take t.length t.bytes };
-
-    ghost invariant = { λ t. t.length ≤ 5452 };
+    ghost view = { λ t. t.bytes.items };
 }
 
 // A hexadecimal digit: 0 to 9, then a to f.
@@ -32,12 +30,12 @@ fn hex_digit(x: u8) -> u8
 }
 
 impl Text {
+    // No byte yet.
     pub fn new() -> Text
         ensures { result ≡ [] }
     {
         Text {
-            bytes: [0; Plan::CHARACTERS],
-            length: 0,
+            bytes: ArrayVec::new(),
         }
     }
 
@@ -46,8 +44,7 @@ impl Text {
         requires { length self.old < Plan.CHARACTERS }
         ensures { self.new ≡ self.old ++ b ∷ [] }
     {
-        self.bytes[self.length] = b;
-        self.length += 1;
+        self.bytes.push(b);
     }
 
     // The bytes w.
@@ -55,9 +52,7 @@ impl Text {
         requires { length self.old + length w.now ≤ Plan.CHARACTERS }
         ensures { self.new ≡ self.old ++ w.now }
     {
-        let end = self.length + w.len();
-        self.bytes[self.length..end].copy_from_slice(w);
-        self.length = end;
+        self.bytes.try_extend_from_slice(w).unwrap();
     }
 
     // A number in decimal digits, with no zero before them.
@@ -86,7 +81,7 @@ impl Text {
         ensures answer { result ≡ length self.now }
         ensures output { out.new ≡ onto self.now out.old }
     {
-        out[..self.length].copy_from_slice(&self.bytes[..self.length]);
-        self.length
+        out[..self.bytes.len()].copy_from_slice(&self.bytes);
+        self.bytes.len()
     }
 }

@@ -7,7 +7,8 @@ use native.Mathlib.Nat.{add-zero, zero-add, mul-suc, mul-le-mul_left}
 use native.Mathlib.Numerals.{add-one}
 use native.Mathlib.Omega.{arith}
 use lib.ListN.{length, length-append}
-use lib.Seq.{paste}
+use borrow.Rule.Slice.PartMut.{put_mid}
+use Rattle.std.proofs.lemmas.Slice.{put_mid-paste}
 use Rattle.topology_rules.specs.Count.{those}
 use Rattle.topology_rules.specs.Edit.{records}
 use Rattle.topology.specs.Inside.{Written}
@@ -64,29 +65,35 @@ single : (r : ℕ → List ℕ) (i : ℕ) → records r (i ∷ []) ≡ r i
 unfolding records
 single r i = append-nil (r i)
 
--- The records of w numbers each of those below n that pass, in a loop that has written those below k.
-module _ (r : ℕ → List ℕ) (w : ℕ) (even : (i : ℕ) → length (r i) ≡ w) (f : ℕ → Bool) where
+-- The records of those below n that pass, in a loop that has written the records of those below k.
+module _ (r : ℕ → List ℕ) (f : ℕ → Bool) where
   abbrev so_far : ℕ → List ℕ
   so_far k = records r (those k 0 f)
 
-  pub none_yet : (o : List ℕ) (from : ℕ) → Written o from (so_far 0) o from
+  -- before the first
+  pub none_yet : {from : ℕ} {o : List ℕ} → Written o from (so_far 0) o from
   unfolding records those
-  none_yet o from = written_none o from
+  none_yet {from} {o} = written_none o from
 
-  module _ (o : List ℕ) (from k : ℕ) (out : List ℕ) (at : ℕ) (done : Written o from (so_far k) out at) where
+  module _ (k : ℕ) {from at : ℕ} {o out : List ℕ} (done : Written o from (so_far k) out at) where
+    -- k does not pass
     pub passed_over : f k ≡ false → Written o from (so_far (k + 1)) out at
     passed_over e = rw (those_less f k e) done
 
-    module _ (n : ℕ) (h : k < n) (e : f k ≡ true) (room : from + w * length (those n 0 f) ≤ length o) where
+    -- k passes, each record has w numbers, and there is room for all
+    module _ (w : ℕ) (even : (i : ℕ) → length (r i) ≡ w) (n : ℕ) (room : from + w * length (those n 0 f) ≤ length o) (h : k < n) (e : f k ≡ true) where
       fits : from + length (so_far k) + w ≤ length o
       fits =
           let more = mul-le-mul_left w (those_room f n k h e) in
           omega (arith, records_length r w even (those k 0 f), mul-suc w (length (those k 0 f)))
 
+      -- so there is room for the next
       pub next_fits : at + w ≤ length o
       next_fits = omega (arith, fits, done.up_to)
 
-      pub one_more : (next : List ℕ) → next ≡ paste out at (r k) w → Written o from (so_far (k + 1)) next (at + w)
-      one_more next p =
+      -- and once it is copied there
+      pub one_more : {piece : List ℕ} (m : ℕ) → piece ≡ r k → w ≡ m → Written o from (so_far (k + 1)) (put_mid at m out piece) (at + w)
+      one_more {piece} m p q =
           rw (those_more f k e, records_append r (those k 0 f) (k ∷ []), single r k) (written_after done
-          (record { up_to = omega (arith, even k); whole = p ∙ ap (paste out at (r k)) (sym (even k)) }) (omega (arith, even k, fits)))
+          (record { up_to = omega (arith, even k); whole = put_mid-paste at m out piece (r k) (length (r k)) p (even k ∙ q) refl })
+          (omega (arith, even k, fits)))

@@ -1,8 +1,8 @@
 -- What finding, retiring and pulling answer and write, past the check, by what the searches found.
 use mathlib.Core.Path.{◌≡◌, refl, sym, ap, ◌∙◌}
-use mathlib.Core.Logic.{inl, inr}
 use mathlib.Core.List.{List}
 use Prim.Native.Nat.{ℕ, ◌≤◌, ◌<◌}
+use native.Mathlib.Omega.{arith}
 use lib.ListN.{length}
 use lib.Dec.{eqb, leb}
 use borrow.Author.Tests.{le-leb, lt-leb, lt-ltb, le-ltb, eq-eqb, ne_eqb}
@@ -10,30 +10,31 @@ use Rattle.topology_rules.specs.Format.{switch_count, cable_count}
 use Rattle.topology_rules.specs.Check.{Verdict, refuse, accepted, whenever, verdict}
 use Rattle.topology_rules.specs.Answers.{done, refused, onto}
 use Rattle.topology_rules.specs.Edit.{find, cable_of, retired, pulled, find_verdict, find_reply, retire_verdict, pull_verdict, retire, pull, checked}
-use Rattle.topology_rules.proofs.Tests.{split}
 use Rattle.topology.specs.Reasons.{refusal_of}
-use Rattle.topology.specs.Omitted.{without}
+use Rattle.topology.specs.Left.{left}
+use Rattle.topology.specs.declared.omitted.Omitted.{Omitted}
 use Rattle.topology.specs.declared.refusal.Refusal.{Refusal}
 use Rattle.topology.specs.declared.refusal.Reason.TheVariants.{NoSuchUid, OnlySwitch, NoCable, LittleRoom}
 use Rattle.topology.specs.declared.omitted.Omitted.TheVariants.{Switch, Cable}
 use Rattle.topology.proofs.Passing.{applies, passes}
 use Rattle.topology.proofs.Handing.{went_on, handed_on, answered_refused, answered_done, Gives, refuses, writes}
 
--- what stays without a switch, or without a cable, is what retiring and pulling leave
-pub retired_is : (d : List ℕ) (x : ℕ) → without d (Switch x) ≡ retired d x
-unfolding without retired
+-- what is left without a switch, or without a cable
+abbrev without : List ℕ → Omitted → List ℕ
+without d o = left (record { records = d; without = o })
+
+-- it is what retiring and pulling leave
+retired_is : (d : List ℕ) (x : ℕ) → without d (Switch x) ≡ retired d x
+unfolding left retired
 retired_is d x = refl
 
-pub pulled_is : (d : List ℕ) (c : ℕ) → without d (Cable c) ≡ pulled d c
-unfolding without pulled
+pulled_is : (d : List ℕ) (c : ℕ) → without d (Cable c) ≡ pulled d c
+unfolding left pulled
 pulled_is d c = refl
-
-level : (k n : ℕ) → (k < n → ⊥) → n ≤ k
-level k n h = elim (split k n) [ inl b ↦ absurd (h b) | inr a ↦ a ]
 
 -- a test that a number is below a bound, as the rules ask it
 unknown : (k n : ℕ) (v rest : Verdict) → (k < n → ⊥) → whenever (leb n k) v rest ≡ v
-unknown k n v rest h = let past : n ≤ k = level k n h in applies _ _ _ (le-leb _ _ past)
+unknown k n v rest h = let past : n ≤ k = omega (arith, h) in applies _ _ _ (le-leb _ _ past)
 
 known : (k n : ℕ) (v rest : Verdict) → k < n → whenever (leb n k) v rest ≡ rest
 known k n v rest h = passes _ _ _ (lt-leb _ _ h)
@@ -86,19 +87,19 @@ module _ (d : List ℕ) (u : ℕ) (e : accepted ≡ verdict d) where
         on : (rest : Verdict) → checked d (whenever (leb (switch_count d) (find d u)) (refuse 13 0) (whenever (eqb (switch_count d) 1) (refuse 14 0) rest)) ≡ rest
         on rest = go_on _ ∙ passes _ _ _ (ne_eqb _ _ s)
 
-        left : without d (Switch x) ≡ retired d (find d u)
-        left = retired_is d x ∙ ap (retired d) p
+        switch_rest : without d (Switch x) ≡ retired d (find d u)
+        switch_rest = retired_is d x ∙ ap (retired d) p
 
         -- 16
         pub retire_little : length out < length (without d (Switch x)) → Gives (retire d u out) (refused (refuse 16 0)) out
         unfolding retire retire_verdict
         retire_little g =
-            refuses _ (retired d (find d u)) out (record { reason = LittleRoom; position = 0 }) (on _ ∙ applies _ _ _ (lt-ltb _ _ (rw left at g)))
+            refuses _ (retired d (find d u)) out (record { reason = LittleRoom; position = 0 }) (on _ ∙ applies _ _ _ (lt-ltb _ _ (rw switch_rest at g)))
 
         pub retire_written : length (without d (Switch x)) ≤ length out → (n : ℕ) (after : List ℕ) → n ≡ length (without d (Switch x)) → after ≡ onto (without d (Switch x)) out
             → Gives (retire d u out) (done n) after
         unfolding retire retire_verdict
-        retire_written g = writes _ (retired d (find d u)) out (on _ ∙ passes _ _ _ (le-ltb _ _ (rw left at g))) (without d (Switch x)) left
+        retire_written g = writes _ (retired d (find d u)) out (on _ ∙ passes _ _ _ (le-ltb _ _ (rw switch_rest at g))) (without d (Switch x)) switch_rest
 
       module _ (p x : ℕ) (there : x ≡ find d u) where
         abbrev cable : ℕ
@@ -116,14 +117,14 @@ module _ (d : List ℕ) (u : ℕ) (e : accepted ≡ verdict d) where
           past : (rest : Verdict) → checked d (whenever (leb (switch_count d) (find d u)) (refuse 13 0) (whenever (leb (cable_count d) cable) (refuse 15 0) rest)) ≡ rest
           past rest = go_on _ ∙ known _ _ _ _ (rw here at g)
 
-          rest_is : without d (Cable c) ≡ pulled d cable
-          rest_is = pulled_is d c ∙ ap (pulled d) (q ∙ here)
+          cable_rest : without d (Cable c) ≡ pulled d cable
+          cable_rest = pulled_is d c ∙ ap (pulled d) (q ∙ here)
 
           pub pull_little : length out < length (without d (Cable c)) → Gives (pull d u p out) (refused (refuse 16 0)) out
           unfolding pull pull_verdict
-          pull_little r = refuses _ (pulled d cable) out (record { reason = LittleRoom; position = 0 }) (past _ ∙ applies _ _ _ (lt-ltb _ _ (rw rest_is at r)))
+          pull_little r = refuses _ (pulled d cable) out (record { reason = LittleRoom; position = 0 }) (past _ ∙ applies _ _ _ (lt-ltb _ _ (rw cable_rest at r)))
 
           pub pull_written : length (without d (Cable c)) ≤ length out → (n : ℕ) (after : List ℕ) → n ≡ length (without d (Cable c)) → after ≡ onto (without d (Cable c)) out
               → Gives (pull d u p out) (done n) after
           unfolding pull pull_verdict
-          pull_written r = writes _ (pulled d cable) out (past _ ∙ passes _ _ _ (le-ltb _ _ (rw rest_is at r))) (without d (Cable c)) rest_is
+          pull_written r = writes _ (pulled d cable) out (past _ ∙ passes _ _ _ (le-ltb _ _ (rw cable_rest at r))) (without d (Cable c)) cable_rest

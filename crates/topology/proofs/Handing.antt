@@ -6,6 +6,8 @@ use Prim.Native.Nat.{ℕ}
 use native.Mathlib.Omega.{arith}
 use lib.Dec.{T, eqb}
 use lib.ListN.{length}
+use Rattle.std.specs.Prelude.{Result, Ok, Err}
+use Rattle.std.specs.Result.{IsErrAnd}
 use Rattle.topology_rules.specs.Check.{Verdict, accepted, verdict}
 use Rattle.topology_rules.specs.Answers.{Reply, done, refused, Outcome, answered, onto, outcome}
 use Rattle.topology_rules.specs.Edit.{checked}
@@ -20,6 +22,11 @@ use Rattle.topology.proofs.Scans.{T_true}
 
 not_zero : (k : Reason) → T (not (eqb (number_of k) 0))
 not_zero k = ne→neqb (number_of k) 0 (λ e. omega (arith, some_number k))
+
+-- what `?` returns where the error becomes x
+pub returned : {T E : Type 0} {x : E} (r : Result T E) → IsErrAnd r (λ y. y ≡ x) → r ≡ Err x
+returned (Ok y) h = absurd h
+returned (Err y) h = ap Err h
 
 -- the check's answer
 module _ (d : List ℕ) where

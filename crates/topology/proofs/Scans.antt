@@ -1,12 +1,11 @@
 -- Tests as equations: what a loop over the numbers below a bound has found.
 use mathlib.Core.Path.{◌≡◌, refl, sym, ◌∙◌, ap, subst}
 use mathlib.Core.Bool.{Bool, true, false}
-use Prim.Native.Nat.{ℕ, suc, ◌+◌, ◌*◌, ◌-◌, ◌/◌, ◌%◌, ◌^◌, ◌≤◌, ◌<◌}
+use Prim.Native.Nat.{ℕ, suc, ◌+◌, ◌*◌, ◌/◌, ◌%◌, ◌^◌}
 use native.Mathlib.Numerals.{add-one}
 use native.Mathlib.Omega.{arith}
 use lib.Dec.{T, eqb}
-use Rattle.topology_rules.specs.Count.{either, bit, any, least}
-use Rattle.topology_rules.proofs.Searches.{T_any}
+use Rattle.topology_rules.specs.Count.{either, bit, any}
 
 pub true_T : (b : Bool) → b ≡ true → T b
 true_T b e = rw e tt
@@ -31,12 +30,6 @@ any_suc f k = go (any k f)
 pub any_none : (f : ℕ → Bool) → any 0 f ≡ false
 unfolding any
 any_none f = refl
-
-pub any_next : (f : ℕ → Bool) (k : ℕ) → any k f ≡ false → f k ≡ false → any (k + 1) f ≡ false
-any_next f k p q = rw add-one (any_suc f k ∙ simp (p, q))
-
-pub any_hit : (f : ℕ → Bool) (k i : ℕ) → k < i → f k ≡ true → any i f ≡ true
-any_hit f k i h e = T_true (any i f) (T_any f i k h (true_T (f k) e))
 
 -- the second test settles it where the first fails
 pub either_left : (a b : Bool) → a ≡ true → either a b ≡ true
@@ -74,23 +67,3 @@ module _ (a A B : Bool) (e : a ≡ A) where
 
   pub or_right : (b : Bool) → a ≡ false → b ≡ B → b ≡ either A B
   or_right b t s = s ∙ sym (either_right A B (sym e ∙ t))
-
--- the least number that passes, from i on below s
-module _ (f : ℕ → Bool) (s i : ℕ) where
-  here : (b : Bool) (x y : ℕ) → b ≡ true → elim b [ true ↦ x | false ↦ y ] ≡ x
-  here b x y e = rw e refl
-
-  later : (b : Bool) (x y : ℕ) → b ≡ false → elim b [ true ↦ x | false ↦ y ] ≡ y
-  later b x y e = rw e refl
-
-  pub least_hit : i < s → f i ≡ true → least (s - i) i f ≡ i
-  unfolding least
-  least_hit h e = let n : s - i ≡ suc (s - (i + 1)) = omega arith in rw n (here (f i) i _ e)
-
-  pub least_miss : i < s → f i ≡ false → least (s - i) i f ≡ least (s - (i + 1)) (i + 1) f
-  unfolding least
-  least_miss h e = let n : s - i ≡ suc (s - (i + 1)) = omega arith in rw (n, add-one i) (later (f i) i _ e)
-
-  pub least_none : s ≤ i → i ≤ s → least (s - i) i f ≡ s
-  unfolding least
-  least_none h l = let n : s - i ≡ 0 = omega arith in let e : i ≡ s = omega arith in rw n e

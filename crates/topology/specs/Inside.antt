@@ -1,8 +1,7 @@
 -- What the private functions ask of each other.
-use Rattle.std.specs.Prelude.{ℕ, ◌+◌, ◌*◌, ◌≤◌, ◌<◌, ◌≡◌, Bool, false, List, slice_index_or, length}
+use Rattle.std.specs.Prelude.{ℕ, ◌+◌, ◌*◌, ◌≤◌, ◌<◌, ◌≡◌, List, length}
 use Rattle.std.proofs.Math.Seq.{paste}
-use Rattle.topology_rules.specs.Count.{any}
-use Rattle.topology_rules.specs.Format.{switch_count, cable_count, end_switch, end_port, ends_at}
+use Rattle.topology_rules.specs.Format.{switch_count, cable_count, end_switch, end_port}
 use Rattle.topology_rules.specs.Check.{Verdict, switches_from, cables_from}
 
 -- the counts that were read, and room for their records
@@ -12,15 +11,6 @@ pub record Sized (d : List ℕ) (s l : ℕ) : Type 0 where
   pub few_switches : s ≤ 64
   pub few_cables : l ≤ 384
   pub room : 9 + 8 * s + 4 * l ≤ length d
-
--- port p of switch x is an end of one of the first c cables
-unfoldable pub used : List ℕ → ℕ → ℕ → ℕ → Bool
-used d c x p = any (2 * c) (ends_at d x p)
-
--- a table of marks, 13 for each switch, says which ports those are
-pub record Noted (d : List ℕ) (c : ℕ) (m : List Bool) : Type 0 where
-  pub size : length m ≡ 832
-  pub says : (x p : ℕ) → x < 64 → p ≤ 12 → slice_index_or m (13 * x + p) false ≡ used d c x p
 
 -- both ends of cable c are at cable ports of switches that are there
 pub record Ends (d : List ℕ) (c : ℕ) : Type 0 where

@@ -1,22 +1,16 @@
 // What is wrong with a cable record, and which ports the cables so far use.
-ghost use Rattle.std.specs.Prelude.{◌≡◌, false, ◌+◌, ◌*◌, ◌<◌, ◌≤◌, slice_index_or};
+ghost use Rattle.std.specs.Prelude.{◌≡◌, ◌+◌, ◌<◌, ◌≤◌};
 ghost use Rattle.topology_rules.specs.Count.{bit, either};
 ghost use Rattle.topology_rules.specs.Format.{switch_count, cable_count, hosts_at};
 ghost use Rattle.topology_rules.specs.Check.{Verdict, cable_rule, cables_from, bad_port, bad_switches, bad_ports, one_switch, ports_taken};
 ghost use Rattle.topology.specs.Reasons.{onward, verdict_of};
-ghost use Rattle.topology.specs.Inside.{Ends, Noted};
+ghost use Rattle.topology.specs.Inside.{Ends};
+ghost use Rattle.topology.specs.Used.{is_marked, Noted};
 
 use super::Topology;
 use super::records::{End, Records};
 use super::refusal::{Reason, Refusal};
-
-// Where the table of used ports holds the one at an end, 13 for each switch.
-fn place(end: End) -> usize
-    requires { (end.switch < 64) × (end.port ≤ 12) }
-    ensures { (result ≡ 13 * end.switch + end.port) × (result < 832) }
-{
-    13 * end.switch as usize + end.port as usize
-}
+use super::used::Used;
 
 fn bad_port(p: u8) -> bool
     ensures { result ≡ bad_port p }
@@ -54,15 +48,15 @@ impl<'a> Records<'a> {
     }
 
     // Whether the port at an end has a host or is noted as used.
-    fn occupied(&self, end: End, used: &[bool; Topology::PLACES]) -> bool
+    fn occupied(&self, end: End, used: &Used) -> bool
         requires { (end.switch < switch_count self.now) × (end.switch < 64) × (end.port ≤ 12) }
-        ensures { result ≡ either (bit (hosts_at self.now end.switch) end.port) (slice_index_or used.now (13 * end.switch + end.port) false) }
+        ensures { result ≡ either (bit (hosts_at self.now end.switch) end.port) (is_marked used.now end.switch end.port) }
     {
-        (self.hosts(end.switch as usize) >> end.port) % 2 == 1 || used[place(end)]
+        (self.hosts(end.switch as usize) >> end.port) % 2 == 1 || used.has(end)
     }
 
     // 12: an end of cable c at a host's port or at one that an earlier cable uses.
-    fn ports_taken(&self, c: usize, used: &[bool; Topology::PLACES]) -> bool
+    fn ports_taken(&self, c: usize, used: &Used) -> bool
         requires { (c < cable_count self.now) × Noted self.now c used.now × Ends self.now c }
         ensures { result ≡ ports_taken self.now c }
     {
@@ -71,7 +65,7 @@ impl<'a> Records<'a> {
     }
 
     // Record c: 9, 10, 11, 12.
-    fn check_cable(&self, c: usize, used: &[bool; Topology::PLACES]) -> Result<(), Refusal>
+    fn check_cable(&self, c: usize, used: &Used) -> Result<(), Refusal>
         requires { (c < cable_count self.now) × (c < 384) × Noted self.now c used.now }
         ensures { (rest : Verdict) → cable_rule self.now c rest ≡ onward result rest }
     {
@@ -91,13 +85,13 @@ impl<'a> Records<'a> {
     }
 
     // Notes the ports of cable c.
-    fn note_ends(&self, c: usize, used: &mut [bool; Topology::PLACES])
+    fn note_ends(&self, c: usize, used: &mut Used)
         requires { (c < cable_count self.now) × Noted self.now c used.old × Ends self.now c }
         ensures { Noted self.now (c + 1) used.new }
     {
         let (one, other) = self.ends(c);
-        used[place(one)] = true;
-        used[place(other)] = true;
+        used.mark(one);
+        used.mark(other);
     }
 
     // 9 to 12, over the cable records in file order.
@@ -105,7 +99,7 @@ impl<'a> Records<'a> {
         ensures { verdict_of result ≡ cables_from self.now (cable_count self.now) 0 }
     {
         // Which ports the cables so far use.
-        let mut used = [false; Topology::PLACES];
+        let mut used = Used::none();
         for c in 0..self.cables() {
             self.check_cable(c, &used)?;
             self.note_ends(c, &mut used);

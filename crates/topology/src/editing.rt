@@ -6,6 +6,7 @@ ghost use Rattle.topology.specs.Reasons.{reply_of};
 use super::checking::check;
 use super::omitted::Omitted;
 use super::refusal::{Reason, Refusal};
+use super::writing::Part;
 
 /// Where the switch with that UID stands, or the first refusal of 1 to 13.
 pub fn find(d: &[u8], uid: u64) -> Result<u16, Refusal>
@@ -26,7 +27,11 @@ pub fn retire(d: &[u8], uid: u64, out: &mut [u8]) -> Result<usize, Refusal>
     if net.switches() == 1 {
         return Err(Reason::OnlySwitch.at(0));
     }
-    let length = net.records.write_without(Omitted::Switch(x), out)?;
+    let part = Part {
+        records: net.records,
+        without: Omitted::Switch(x),
+    };
+    let length = part.write(out)?;
     Ok(length)
 }
 
@@ -38,6 +43,10 @@ pub fn pull(d: &[u8], uid: u64, port: u64, out: &mut [u8]) -> Result<usize, Refu
     let net = check(d)?;
     let x = net.find(uid)?;
     let c = net.records.cable_at(x, port)?;
-    let length = net.records.write_without(Omitted::Cable(c), out)?;
+    let part = Part {
+        records: net.records,
+        without: Omitted::Cable(c),
+    };
+    let length = part.write(out)?;
     Ok(length)
 }

@@ -35,13 +35,13 @@ fn back(ch: usize) -> usize
     if ch % 2 == 0 { ch + 1 } else { ch - 1 }
 }
 
+// The clauses named `accepted` tell callers the invariant: they see only the bytes.
 impl<'a> Net<'a> {
     /// How many switches there are.
     pub fn switches(&self) -> usize
         ensures count { (result ≡ switch_count self.now) × (result ≤ 64) }
         ensures accepted { Accepted self.now }
     {
-        let _ = &self.records;
         self.records.switches()
     }
 
@@ -92,11 +92,8 @@ impl<'a> Net<'a> {
         ensures found { OkIff result (find self.now uid < switch_count self.now) (find self.now uid) }
         ensures missing { IfErr result (λ r. r ≡ NoSuchUid) }
     {
-        for s in 0..self.switches() {
-            if self.uid(s) == uid {
-                return Ok(s);
-            }
-        }
-        Err(Reason::NoSuchUid)
+        (0..self.switches())
+            .find(|&s| self.uid(s) == uid)
+            .ok_or(Reason::NoSuchUid)
     }
 }

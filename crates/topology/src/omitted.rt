@@ -1,5 +1,5 @@
 // What an edit leaves out of a description.
-ghost use Rattle.std.specs.Prelude.{◌≡◌, ◌≤◌};
+ghost use Rattle.std.specs.Prelude.{◌≡◌};
 ghost use Rattle.topology.specs.Omitted.{switch_stays, position};
 
 /// A switch, with the cables that end there, or a cable.

@@ -83,6 +83,7 @@ fn bad_count(s: usize) -> bool
     s == 0 || Topology::SWITCHES < s
 }
 
+// Switches and cables are asked for by index, and each function says which are there: a type for an index would have to name its description.
 impl<'a> Records<'a> {
     // 1 to 6, or the records.
     pub fn read(d: &'a [u8]) -> Result<Records<'a>, Refusal>
@@ -164,6 +165,7 @@ impl<'a> Records<'a> {
         ensures ends { (result.0 ≡ end_at self.now (2 * c)) × (result.1 ≡ end_at self.now (2 * c + 1)) }
         ensures few_switches { switch_count self.now ≤ 64 }
     {
+        // A field is used, so that the invariant is known here.
         let _ = &self.cables;
         (self.end(2 * c), self.end(2 * c + 1))
     }

@@ -23,11 +23,8 @@ impl<'a> Records<'a> {
         ensures found { OkIff result (cable_of self.now x p < cable_count self.now) (cable_of self.now x p) }
         ensures missing { IfErr result (λ r. r ≡ NoCable) }
     {
-        for c in 0..self.cables() {
-            if self.ends_at(c, x, p) {
-                return Ok(c);
-            }
-        }
-        Err(Reason::NoCable)
+        (0..self.cables())
+            .find(|&c| self.ends_at(c, x, p))
+            .ok_or(Reason::NoCable)
     }
 }

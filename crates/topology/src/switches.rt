@@ -14,12 +14,7 @@ impl<'a> Records<'a> {
         requires { i ≤ switch_count self.now }
         ensures { result ≡ any i (λ j. nat_eq (uid_at self.now j) u) }
     {
-        for j in 0..i {
-            if self.uid(j) == u {
-                return true;
-            }
-        }
-        false
+        (0..i).any(|j| self.uid(j) == u)
     }
 
     // 7: no UID, or one that an earlier record has.

@@ -1,7 +1,7 @@
 -- Each channel is one step more.
-use Rattle.std.proofs.Common.{arith}
+use Rattle.std.proofs.Common.{arith, ◌≡◌}
 use Rattle.topology_rules.specs.Net.{net_of}
-use Rattle.planner.proofs.Steps.{turn_first, turn_next, turn_last}
+use Rattle.planner.proofs.Steps.{turn_first, turn_next}
 use Rattle.planner.proofs.Settling.{settled_at}
 use Rattle.planner.proofs.levels.round.Goals as goal
 
@@ -14,4 +14,4 @@ loop-ch-preserved c =
 
 pub returns : goal.returns
 unfolding net_of
-returns c = turn_last _ _ _ _ _ (omega arith) (omega arith) c.loop-ch.invariant
+returns c = let e : (net_of c.args.net.now).channels ≡ c.loop-ch.ch = omega arith in rw e c.loop-ch.invariant

@@ -4,13 +4,13 @@ use Rattle.planner.proofs.Chosen.{none_chosen, kept_channels, chosen_next, all_c
 use Rattle.planner.proofs.parents.parents.Goals as goal
 
 pub loop-ch-init : goal.loop-ch-init
-loop-ch-init c = none_chosen _ c.channels-ch-end.ensures.accepted
+loop-ch-init c = none_chosen _ _ c.net.ensures c.channels-ch-end.ensures.accepted
 
 pub choose-requires-clause-kept : goal.choose-requires-clause-kept
-choose-requires-clause-kept c = kept_channels _ c.channels-ch-end.ensures.accepted _ (omega arith) _ c.loop-ch.invariant
+choose-requires-clause-kept c = kept_channels _ _ c.net.ensures c.channels-ch-end.ensures.accepted _ (omega arith) _ c.loop-ch.invariant
 
 pub loop-ch-preserved : goal.loop-ch-preserved
-loop-ch-preserved c = chosen_next _ c.channels-ch-end.ensures.accepted _ (omega arith) _ c.loop-ch.invariant _ c.choose.ensures
+loop-ch-preserved c = chosen_next _ _ c.net.ensures c.channels-ch-end.ensures.accepted _ (omega arith) _ c.loop-ch.invariant _ c.choose.ensures
 
 pub returns : goal.returns
-returns c = all_chosen _ c.channels-ch-end.ensures.accepted _ _ (omega arith) c.loop-ch.invariant
+returns c = all_chosen _ _ c.net.ensures c.channels-ch-end.ensures.accepted _ _ (omega arith) c.loop-ch.invariant

@@ -1,8 +1,8 @@
 -- Each channel is one step more, which says whether it took a root over.
-use Rattle.std.proofs.Common.{arith}
+use Rattle.std.proofs.Common.{arith, ◌≡◌}
 use Rattle.topology_rules.specs.Net.{net_of}
 use Rattle.planner.proofs.Lifting.{lifted_at, lowers_at}
-use Rattle.planner.proofs.Steps.{any_first, any_next, any_last, turn_first, turn_next, turn_last}
+use Rattle.planner.proofs.Steps.{any_first, any_next, turn_first, turn_next}
 use Rattle.planner.proofs.roots.lift_all.Goals as goal
 
 pub loop-ch-init : goal.loop-ch-init
@@ -18,8 +18,8 @@ loop-ch-preserved c = record {
 
 pub returns-clause-changes : goal.returns-clause-changes
 unfolding net_of
-returns-clause-changes c = any_last _ _ _ _ (omega arith) (omega arith) c.loop-ch.invariant.changes
+returns-clause-changes c = let e : (net_of c.args.net.now).channels ≡ c.loop-ch.ch = omega arith in rw e c.loop-ch.invariant.changes
 
 pub returns-clause-lifts : goal.returns-clause-lifts
 unfolding net_of
-returns-clause-lifts c = turn_last _ _ _ _ _ (omega arith) (omega arith) c.loop-ch.invariant.lifts
+returns-clause-lifts c = let e : (net_of c.args.net.now).channels ≡ c.loop-ch.ch = omega arith in rw e c.loop-ch.invariant.lifts

@@ -1,6 +1,5 @@
 -- A digit more is the next lower one.
-use Rattle.std.proofs.Common.{arith}
-use Rattle.planner.proofs.Numerals.{hex_begun, hex_room, hex_next, hex_ended}
+use Rattle.planner.proofs.Numerals.{hex_begun, hex_room, hex_next}
 use Rattle.planner.proofs.text.Text.hex.Goals as goal
 
 pub loop-place-init : goal.loop-place-init
@@ -11,6 +10,3 @@ push-requires c = let l = c.loop-place in hex_room c.args.u _ l.place l.invarian
 
 pub loop-place-preserved : goal.loop-place-preserved
 loop-place-preserved c = let l = c.loop-place in hex_next c.args.u _ l.place l.invariant c.loop-place-test.true l.auto.place c.hex_digit.ensures c.push.ensures
-
-pub returns : goal.returns
-returns c = hex_ended c.args.u _ c.loop-place.place c.loop-place.invariant (omega arith)

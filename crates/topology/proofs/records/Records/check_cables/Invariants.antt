@@ -1,8 +1,8 @@
--- What the records from the one at hand on give is what all of them give, and the table knows the cables before it.
+-- What the records from the one at hand on give is what all of them give, and the marks are those of the cables before it.
 use Rattle.std.proofs.Common.{◌-◌, ◌≡◌}
 use Rattle.topology_rules.specs.Format.{cable_count}
 use Rattle.topology_rules.specs.Check.{cables_from}
-use Rattle.topology.specs.Inside.{Noted}
+use Rattle.topology.specs.Used.{Noted}
 use Rattle.topology.proofs.records.Records.check_cables.Given as goal
 
 abbrev pub invariant-loop-c : goal.invariant-loop-c

@@ -1,14 +1,9 @@
--- None of the records passed has the UID.
-use Rattle.std.proofs.Common.{◌∙◌, sym, eq-eqb}
-use borrow.Author.Tests.{ne_eqb}
-use Rattle.topology.proofs.Scans.{any_none, any_next, any_hit}
+-- Whether one of the records before has the UID.
+use Rattle.std.proofs.Common.{rules, nat_eq}
+use borrow.Author.Tests.{tests}
+use Rattle.topology_rules.specs.Format.{uid_at}
+use Rattle.topology.proofs.Ranges.{any_passes}
 use Rattle.topology.proofs.records.Records.repeated.Goals as goal
 
-pub loop-j-init : goal.loop-j-init
-loop-j-init c = any_none _
-
-pub returns-then-uid-u : goal.returns-then-uid-u
-returns-then-uid-u c = sym (any_hit _ _ _ c.loop-j-test.true (eq-eqb _ _ (sym c.uid.ensures ∙ c.if-uid-u.true)))
-
-pub loop-j-preserved : goal.loop-j-preserved
-loop-j-preserved c = any_next _ _ c.loop-j.invariant (ne_eqb _ _ (λ e. c.if-uid-u.false (c.uid.ensures ∙ e)))
+pub returns : goal.returns
+returns c = any_passes (λ j. nat_eq (uid_at c.args.self.now j) c.args.u) _ _ _ _ c.any.ensures.ran (λ x b q k. (search rules, search (rules, tests)))

@@ -3,7 +3,7 @@ use Rattle.topology_rules.specs.Count.{those}
 use Rattle.topology_rules.specs.Edit.{switch_record, records}
 use Rattle.topology.specs.Inside.{Written}
 use Rattle.topology.specs.Omitted.{switch_stays}
-use Rattle.topology.proofs.records.Records.put_switches.Given as goal
+use Rattle.topology.proofs.writing.Part.put_switches.Given as goal
 
 abbrev pub invariant-loop-i : goal.invariant-loop-i
-invariant-loop-i l = Written l.initial.out l.from (records (switch_record l.self) (those l.i 0 (switch_stays l.without))) l.out l.at
+invariant-loop-i l = Written l.initial.out l.from (records (switch_record l.self.records) (those l.i 0 (switch_stays l.self.without))) l.out l.at
