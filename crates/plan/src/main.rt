@@ -8,7 +8,7 @@ use streams::read_full;
 
 fn main(rt: HostRuntime) -> io::Result<()> {
     // What is kept has a fixed size, and nothing is allocated.
-    let mut kept = [0u8; 2058];
+    let mut kept = [0u8; Plan::KEPT];
     let n = read_full(&mut rt.reader(), &mut kept)?;
     let mut text = [0u8; Plan::CHARACTERS];
     let length = planner::print(&kept[..n], &mut text);

@@ -8,6 +8,7 @@ use native.Mathlib.Omega.{arith}
 use lib.ListN.{length, length-append}
 use Rattle.topology_rules.specs.Count.{tabulate}
 use Rattle.topology_rules.specs.Edit.{records}
+use Rattle.planner.specs.Room.{HasRoom}
 
 -- tabulated numbers grow at the end
 tabulate_grows : (k a : ℕ) → tabulate (suc k) a (λ i. i) ≡ tabulate k a (λ i. i) ++ (a + k) ∷ []
@@ -44,7 +45,7 @@ module _ (r : ℕ → List ℕ) (a : ℕ) (o : List ℕ) where
   -- r i is the next
   module _ (k i : ℕ) (at : i ≡ a + k) {t : List ℕ} (done : t ≡ o ++ so_far k) where
     -- there is room for it
-    pub run_room : (n : ℕ) → k < n → length o + length (so_far n) ≤ 5452 → length t + length (r i) ≤ 5452
+    pub run_room : (n : ℕ) → k < n → HasRoom o (so_far n) → HasRoom t (r i)
     run_room n h room =
         let e : k + 1 + (n - (k + 1)) ≡ n = omega arith in
         let m : length (so_far (k + 1)) ≤ length (so_far n) = rw e at (higher (k + 1) (n - (k + 1))) in

@@ -9,6 +9,7 @@ use Rattle.std.proofs.lemmas.List.{at_drop_more, at_drop_all}
 use Rattle.planner_rules.specs.Printed.{space, newline, refused_word, decimal, fields, line}
 use Rattle.planner_rules.proofs.Digits.{decimal_length}
 use Rattle.planner.specs.Lines.{field_text}
+use Rattle.planner.specs.Room.{HasRoom}
 use Rattle.planner.specs.declared.printing.Field.{Field}
 use Rattle.planner.specs.declared.printing.Field.TheVariants.{Number}
 
@@ -30,7 +31,7 @@ module _ (fs : List Field) (i : ℕ) (t all : List ℕ) where
     more h = ap (λ l. t ++ l) (sym (at_drop_more from_field fs i (Number 0) h)) ∙ whole
 
     -- there is room for it
-    pub field_room : i < length fs → length all ≤ 5452 → length t + length this ≤ 5452
+    pub field_room : i < length fs → length all ≤ 5452 → HasRoom t this
     field_room h room = omega (arith, ap length (more h), length-append t (this ++ later), length-append this later)
 
     -- one field more
@@ -43,7 +44,7 @@ module _ (fs : List Field) (i : ℕ) (t all : List ℕ) where
     last h = ap (λ l. t ++ l) (sym (at_drop_all from_field fs i h)) ∙ whole
 
     -- there is room for it
-    pub end_room : length fs ≤ i → length all ≤ 5452 → length t < 5452
+    pub end_room : length fs ≤ i → length all ≤ 5452 → HasRoom t (newline ∷ [])
     end_room h room = omega (arith, ap length (last h), length-append t (newline ∷ []))
 
     -- all is written
@@ -51,7 +52,7 @@ module _ (fs : List Field) (i : ℕ) (t all : List ℕ) where
     end_line h e = e ∙ last h
 
 -- o and v fit together
-pub room_both : (o v : List ℕ) → length o + length v ≤ 5452 → length (o ++ v) ≤ 5452
+pub room_both : (o v : List ℕ) → HasRoom o v → length (o ++ v) ≤ 5452
 room_both o v room = omega (arith, length-append o v)
 
 -- a refusal is short

@@ -15,6 +15,7 @@ use Rattle.planner_rules.proofs.Addresses.{held_exactly}
 use Rattle.planner_rules.proofs.PrintedPlan.{plan_reads}
 use Rattle.planner_rules.proofs.PrintLaws.{print_laws}
 use Rattle.planner.specs.Lines.{switch_lines, link_lines}
+use Rattle.planner.specs.Room.{HasRoom}
 
 module _ (d : List ℕ) (a : Accepted d) where
   -- it is not refused
@@ -42,7 +43,7 @@ module _ (d : List ℕ) (a : Accepted d) where
     short = omega (arith, print_laws.short d, ap length text, length-append (heading ++ switch_lines d) (link_lines d), length-append heading (switch_lines d))
 
     -- there is room for the first line
-    pub heading_room : length start + length heading ≤ 5452
+    pub heading_room : HasRoom start heading
     heading_room = omega (arith, short, ap length empty)
 
     module _ {t : List ℕ} (first : t ≡ start ++ heading) where
@@ -51,12 +52,12 @@ module _ (d : List ℕ) (a : Accepted d) where
       begun = first ∙ ap (λ o. o ++ heading) empty
 
       -- there is room for the lines of the switches
-      pub switches_room : length t + length (switch_lines d) ≤ 5452
+      pub switches_room : HasRoom t (switch_lines d)
       switches_room = omega (arith, short, ap length begun)
 
       module _ {u : List ℕ} (second : u ≡ t ++ switch_lines d) where
         -- there is room for the lines of the cables
-        pub links_room : length u + length (link_lines d) ≤ 5452
+        pub links_room : HasRoom u (link_lines d)
         links_room = omega (arith, short, ap length begun, ap length second, length-append t (switch_lines d))
 
         -- then the plan is written

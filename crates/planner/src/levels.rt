@@ -9,7 +9,7 @@ use crate::roots::roots;
 use std::marker::Model;
 use topology::{Net, Topology};
 
-/// A net with the level of each of its switches.
+/// A net with the level of each of its switches, in a row for as many as there can be: nothing is allocated.
 #[derive(Drop)]
 pub struct Levels<'a> {
     net: &'a Net<'a>,

@@ -1,13 +1,13 @@
 // The printed plan, line by line.
-ghost use Rattle.std.specs.Prelude.{◌≡◌, [], ◌∷◌, ◌++◌, ◌+◌, ◌<◌, ◌≤◌, length, map};
+ghost use Rattle.std.specs.Prelude.{◌≡◌, [], ◌∷◌, ◌++◌, ◌<◌, map};
 ghost use Rattle.topology_rules.specs.Format.{switch_count, cable_count};
 ghost use Rattle.topology_rules.specs.Net.{net_of};
 ghost use Rattle.topology.specs.Reasons.{number_of};
 ghost use Rattle.planner_rules.specs.Table.{holder};
 ghost use Rattle.planner_rules.specs.Printed.{space, refused_word, decimal, line, switch_line, link_line, printed};
+ghost use Rattle.planner.specs.Room.{HasRoom};
 ghost use Rattle.planner.specs.Lines.{field_text, switch_lines, link_lines};
 
-use super::Plan;
 use crate::text::Text;
 use crate::tree::Tree;
 use topology::Refusal;
@@ -21,7 +21,7 @@ enum Field {
 
 // A space and a field.
 fn put_field(text: &mut Text, f: Field)
-    requires { length text.old + length (space ∷ field_text f) ≤ Plan.CHARACTERS }
+    requires { HasRoom text.old (space ∷ field_text f) }
     ensures { text.new ≡ text.old ++ space ∷ field_text f }
 {
     text.push(b' ');
@@ -33,7 +33,7 @@ fn put_field(text: &mut Text, f: Field)
 
 // A word, its fields, and the end of the line.
 fn line(text: &mut Text, word: &[u8], fs: &[Field])
-    requires { length text.old + length (line word.now (map field_text fs.now)) ≤ Plan.CHARACTERS }
+    requires { HasRoom text.old (line word.now (map field_text fs.now)) }
     ensures { text.new ≡ text.old ++ line word.now (map field_text fs.now) }
 {
     text.push_all(word);
@@ -43,9 +43,11 @@ fn line(text: &mut Text, word: &[u8], fs: &[Field])
     text.push(b'\n');
 }
 
+// Lines are put into a text from a tree; a type of both would have no fact of its own.
+
 // The line of the switch with number k.
 fn switch_line(text: &mut Text, tree: &Tree<'_>, k: usize)
-    requires { (holder (net_of tree.now) k < switch_count tree.now) × (length text.old + length (switch_line (net_of tree.now) k) ≤ Plan.CHARACTERS) }
+    requires { (holder (net_of tree.now) k < switch_count tree.now) × HasRoom text.old (switch_line (net_of tree.now) k) }
     ensures { text.new ≡ text.old ++ switch_line (net_of tree.now) k }
 {
     let s = tree.holder(k);
@@ -60,7 +62,7 @@ fn switch_line(text: &mut Text, tree: &Tree<'_>, k: usize)
 
 // The line of cable c.
 fn link_line(text: &mut Text, tree: &Tree<'_>, c: usize)
-    requires { (c < cable_count tree.now) × (length text.old + length (link_line (net_of tree.now) c) ≤ Plan.CHARACTERS) }
+    requires { (c < cable_count tree.now) × HasRoom text.old (link_line (net_of tree.now) c) }
     ensures { text.new ≡ text.old ++ link_line (net_of tree.now) c }
 {
     let fields = [Field::Number(c), Field::Number(tree.up_number(c) as usize)];
@@ -69,7 +71,7 @@ fn link_line(text: &mut Text, tree: &Tree<'_>, c: usize)
 
 // The lines of the switches, in number order.
 fn switch_lines(text: &mut Text, tree: &Tree<'_>)
-    requires { length text.old + length (switch_lines tree.now) ≤ Plan.CHARACTERS }
+    requires { HasRoom text.old (switch_lines tree.now) }
     ensures { text.new ≡ text.old ++ switch_lines tree.now }
 {
     for k in 1..=tree.switches() {
@@ -79,7 +81,7 @@ fn switch_lines(text: &mut Text, tree: &Tree<'_>)
 
 // The lines of the cables, in record order.
 fn link_lines(text: &mut Text, tree: &Tree<'_>)
-    requires { length text.old + length (link_lines tree.now) ≤ Plan.CHARACTERS }
+    requires { HasRoom text.old (link_lines tree.now) }
     ensures { text.new ≡ text.old ++ link_lines tree.now }
 {
     for c in 0..tree.cables() {

@@ -1,13 +1,14 @@
 // Text as it is printed, byte after byte.
-ghost use Rattle.std.specs.Prelude.{◌≡◌, [], ◌∷◌, ◌++◌, ◌+◌, ◌<◌, ◌≤◌, length};
+ghost use Rattle.std.specs.Prelude.{◌≡◌, [], ◌∷◌, ◌++◌, length};
 ghost use Rattle.topology_rules.specs.Answers.{onto};
-ghost use Rattle.planner_rules.specs.Printed.{decimal, hex_digit, hex};
+ghost use Rattle.planner_rules.specs.Printed.{decimal, hex};
+ghost use Rattle.planner.specs.Room.{HasRoom};
 
 use super::Plan;
 use arrayvec::ArrayVec;
 use std::marker::Model;
 
-/// At most as many bytes as a plan prints, in a vector that never allocates. `fmt::Write` promises what it wrote only where it succeeds, and `print` cannot fail, so digits are written here.
+/// At most as many bytes as a plan prints, in a vector that never allocates.
 #[derive(Drop)]
 pub struct Text {
     bytes: ArrayVec<u8, { Plan::CHARACTERS }>,
@@ -21,14 +22,7 @@ impl Model for Text {
     ghost view = { λ t. t.bytes.items };
 }
 
-// A hexadecimal digit: 0 to 9, then a to f.
-fn hex_digit(x: u8) -> u8
-    requires { x < 16 }
-    ensures { result ≡ hex_digit x }
-{
-    if x < 10 { b'0' + x } else { b'a' + (x - 10) }
-}
-
+// Each call that writes asks for room: what is written depends on the call, so the type cannot carry it.
 impl Text {
     // No byte yet.
     pub fn new() -> Text
@@ -41,7 +35,7 @@ impl Text {
 
     // One byte.
     pub fn push(&mut self, b: u8)
-        requires { length self.old < Plan.CHARACTERS }
+        requires { HasRoom self.old (b ∷ []) }
         ensures { self.new ≡ self.old ++ b ∷ [] }
     {
         self.bytes.push(b);
@@ -49,7 +43,7 @@ impl Text {
 
     // The bytes w.
     pub fn push_all(&mut self, w: &[u8])
-        requires { length self.old + length w.now ≤ Plan.CHARACTERS }
+        requires { HasRoom self.old w.now }
         ensures { self.new ≡ self.old ++ w.now }
     {
         self.bytes.try_extend_from_slice(w).unwrap();
@@ -57,23 +51,21 @@ impl Text {
 
     // A number in decimal digits, with no zero before them.
     pub fn decimal(&mut self, x: usize)
-        requires { length self.old + length (decimal x) ≤ Plan.CHARACTERS }
+        requires { HasRoom self.old (decimal x) }
         ensures { self.new ≡ self.old ++ decimal x }
     {
-        if x >= 10 {
-            self.decimal(x / 10);
-        }
-        self.push(b'0' + (x % 10) as u8);
+        let mut digits = itoa::Buffer::new();
+        self.push_all(digits.format(x).as_bytes());
     }
 
     // The lowest 12 hexadecimal digits of u, the highest first.
     pub fn hex(&mut self, u: u64)
-        requires { length self.old + length (hex 12 u) ≤ Plan.CHARACTERS }
+        requires { HasRoom self.old (hex 12 u) }
         ensures { self.new ≡ self.old ++ hex 12 u }
     {
-        for place in (0..12u32).rev() {
-            self.push(hex_digit(((u >> (4 * place)) % 16) as u8));
-        }
+        let mut digits = [0; 12];
+        hex::encode_to_slice(&u.to_be_bytes()[2..], &mut digits).unwrap();
+        self.push_all(&digits);
     }
 
     // The text at the start of a buffer; its length.

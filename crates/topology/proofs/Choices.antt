@@ -9,7 +9,7 @@ use native.Mathlib.Omega.{arith}
 use lib.ListN.{length, length-append}
 use borrow.Rule.Slice.PartMut.{put_mid}
 use Rattle.std.proofs.lemmas.Slice.{put_mid-paste}
-use Rattle.topology_rules.specs.Count.{those}
+use Rattle.topology_rules.specs.Count.{those, count}
 use Rattle.topology_rules.specs.Edit.{records}
 use Rattle.topology.specs.Inside.{Written}
 use Rattle.topology.proofs.Scans.{true_T}
@@ -41,16 +41,15 @@ module _ (f : ℕ → Bool) where
   those_less : (k : ℕ) → f k ≡ false → those (k + 1) 0 f ≡ those k 0 f
   those_less k e = next k ∙ ap (λ b. those k 0 f ++ cond b (k ∷ []) []) e ∙ append-nil (those k 0 f)
 
-  -- counted
-  pub count_more : (k n : ℕ) → n ≡ length (those k 0 f) → f k ≡ true → n + 1 ≡ length (those (k + 1) 0 f)
-  count_more k n h e = rw (those_more k e) (omega (arith, length-append (those k 0 f) (k ∷ [])))
-
-  pub count_less : (k n : ℕ) → n ≡ length (those k 0 f) → f k ≡ false → n ≡ length (those (k + 1) 0 f)
-  count_less k n h e = rw (those_less k e) h
-
-  pub count_none : 0 ≡ length (those 0 0 f)
-  unfolding those
-  count_none = refl
+  -- their list is as long as the rules count them
+  pub count_those : (k : ℕ) → count k f ≡ length (those k 0 f)
+  unfolding count those
+  count_those zero = refl
+  count_those (suc k) = go (f k) refl (count_those k)
+    where
+      go : (b : Bool) → b ≡ f k → count k f ≡ length (those k 0 f) → cond b (suc (count k f)) (count k f) ≡ length (those (suc k) 0 f)
+      go true e c = rw (← add-one k, those_more k (sym e)) (omega (arith, c, length-append (those k 0 f) (k ∷ [])))
+      go false e c = rw (← add-one k, those_less k (sym e)) c
 
   -- where k passes, more pass below n
   those_room : (n k : ℕ) → k < n → f k ≡ true → length (those k 0 f) < length (those n 0 f)

@@ -1,15 +1,16 @@
 -- What std's searches over the numbers below n answer, where the closure computes a test of each number.
 use mathlib.Core.Path.{◌≡◌, refl, sym, subst, ◌∙◌, ap}
 use mathlib.Core.Logic.{inl, inr}
-use mathlib.Core.Bool.{Bool, true, false}
-use mathlib.Core.List.{List}
-use Prim.Native.Nat.{ℕ, ◌≤◌, ◌<◌}
+use mathlib.Core.Bool.{Bool, true, false, cond}
+use mathlib.Core.List.{List, ◌∷◌}
+use Prim.Native.Nat.{ℕ, suc, zero, ◌+◌, ◌≤◌, ◌<◌}
+use native.Mathlib.Numerals.{add-one}
 use native.Mathlib.Omega.{arith}
 use lib.Dec.{T}
 use lib.ListN.{length, get_or}
 use denote.Param.Members.{Mut}
 use denote.Ref.{Bor}
-use Rattle.std.specs.Prelude.{Option, Some, None, Result, OkIff, MatchOption, ok_or}
+use Rattle.std.specs.Prelude.{Option, Some, None, Result, OkIff, MatchOption, ok_or, count_by}
 use Rattle.std.specs.Bool.{⊤, MatchBool}
 use Rattle.std.specs.Fn.{Called, CalledAt}
 use Rattle.std.specs.Iterator.{YieldsThen}
@@ -17,8 +18,9 @@ use Rattle.std.specs.List.{FoldsTo, AllWithin, HoldsAt, range_with_len}
 use Rattle.std.specs.declared.ops.Range.{Range}
 use Rattle.std.proofs.iter.Yields.{nat_range_steps}
 use Rattle.std.proofs.lemmas.Iterator.{YieldsList-from_range, cases_from_any, first_from_Range}
+use Rattle.std.proofs.lemmas.List.Sums.{sum_by-cons}
 use Rattle.std.proofs.lemmas.List.FromFn.{length-range_with_len, get_or-range_with_len}
-use Rattle.topology_rules.specs.Count.{any, least}
+use Rattle.topology_rules.specs.Count.{any, least, those}
 use Rattle.topology_rules.proofs.Tests.{split}
 use Rattle.topology_rules.proofs.Searches.{any_T, T_any, least_finds, least_passes}
 use Rattle.topology.proofs.Scans.{true_T, T_true, not_true_false}
@@ -82,3 +84,16 @@ module _ (f : ℕ → Bool) (n : ℕ) where
           → b ≡ any n f
       settled true h = let l = rw long at h.1 in sym (T_true (any n f) (T_any f n h.0 l (true_T _ (sym (ap f (at h.0 l)) ∙ h.2 0))))
       settled false h = sym (not_true_false (any n f) (λ t. let w = any_T f n t in subst T (sym (ap f (at w.0 w.1)) ∙ h w.0 0 (omega arith) (rw long w.1)) w.2))
+
+-- `filter().count()` over a range counts those that pass
+module _ (f : ℕ → Bool) where
+  pick : (b : Bool) (a n : ℕ) (l : List ℕ) → n ≡ length l → cond b 1 0 + n ≡ length (elim b as (λ c. List ℕ) [ true ↦ a ∷ l | false ↦ l ])
+  pick true a n l e = omega (arith, e)
+  pick false a n l e = omega (arith, e)
+
+  pub counts : (k a : ℕ) → count_by f (range_with_len a k) ≡ length (those k a f)
+  unfolding those
+  counts zero a = refl
+  counts (suc k) a =
+      sum_by-cons (λ x. cond (f x) 1 0) a (range_with_len (a + 1) k)
+      ∙ pick (f a) a _ (those k (suc a) f) (ap (λ b. count_by f (range_with_len b k)) (add-one a) ∙ counts k (suc a))

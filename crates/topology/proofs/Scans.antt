@@ -38,14 +38,6 @@ either_left a b e = rw e refl
 pub either_right : (a b : Bool) → a ≡ false → either a b ≡ b
 either_right a b e = rw e refl
 
-pub either_true : (a b : Bool) → b ≡ true → true ≡ either a b
-either_true true b e = refl
-either_true false b e = sym e
-
-pub either_false : (a b : Bool) → b ≡ false → a ≡ either a b
-either_false true b e = refl
-either_false false b e = sym e
-
 pub either_none : (a b : Bool) → either a b ≡ false → (a ≡ false) × (b ≡ false)
 either_none true b e = absurd (subst T e tt)
 either_none false b e = (refl, e)

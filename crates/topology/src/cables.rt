@@ -18,6 +18,7 @@ fn bad_port(p: u8) -> bool
     p == 0 || Topology::PORTS < p as usize
 }
 
+// That the marks are those of the first c cables is the state of the one loop below; a type for it would serve that loop alone.
 impl<'a> Records<'a> {
     // 9: an end at a switch that is not there.
     fn bad_switches(&self, c: usize) -> bool

@@ -31,8 +31,7 @@ pub fn retire(d: &[u8], uid: u64, out: &mut [u8]) -> Result<usize, Refusal>
         records: net.records,
         without: Omitted::Switch(x),
     };
-    let length = part.write(out)?;
-    Ok(length)
+    Ok(part.write(out)?)
 }
 
 /// The description without the cable at that UID and port, written at the start of `out`: its length, or the first refusal of 1 to 13, 15 and 16.
@@ -47,6 +46,5 @@ pub fn pull(d: &[u8], uid: u64, port: u64, out: &mut [u8]) -> Result<usize, Refu
         records: net.records,
         without: Omitted::Cable(c),
     };
-    let length = part.write(out)?;
-    Ok(length)
+    Ok(part.write(out)?)
 }

@@ -25,7 +25,7 @@ pub struct End {
 }
 
 impl End {
-    // Whether the end is at port p of switch x.
+    // Whether the end is at port p of switch x. Both are widened and not cut, since any number may be asked for.
     pub fn is_at(self, x: usize, p: u64) -> bool
         ensures { result ≡ both (nat_eq self.switch x) (nat_eq self.port p) }
     {
@@ -51,6 +51,8 @@ impl<'a> Model for Records<'a> {
 
     ghost invariant = { λ r. Sized r.bytes.now r.switches r.cables };
 }
+
+// Places are written as the rules write them: 9 bytes, then 8 a switch, then 4 a cable.
 
 // Two bytes, the higher first.
 fn two(d: &[u8], i: usize) -> u16

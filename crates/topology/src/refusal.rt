@@ -41,7 +41,7 @@ pub struct Refusal {
 }
 
 impl Reason {
-    // Refused for this reason at record i.
+    // Refused for this reason at record i; at 0 where the rules say so, which the edit `position_off_by_one` turns into 1.
     pub(crate) fn at(self, i: usize) -> Refusal
         requires { i < 2 ^ 16 }
         ensures { result ≡ record { reason = self; position = i } }

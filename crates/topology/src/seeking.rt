@@ -8,6 +8,7 @@ ghost use Rattle.topology_rules.specs.Edit.{cable_of};
 use super::records::Records;
 use super::refusal::Reason;
 
+// Switch and port are asked for as `pull` got them; a type of both would have no fact of its own.
 impl<'a> Records<'a> {
     // Whether cable c has an end at port p of switch x.
     fn ends_at(&self, c: usize, x: usize, p: u64) -> bool

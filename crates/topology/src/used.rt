@@ -12,6 +12,7 @@ pub struct Used {
     ghost row: { (x : ℕ) → x < 64 → length (slice_index_or marks x []) ≡ 13 },
 }
 
+// An end that was read may name any switch and port, so each call asks that there can be such a one.
 impl Used {
     ghost use Rattle.topology.specs.Used.{is_marked, NoneMarked, MarksOne};
 

@@ -1,11 +1,12 @@
 // Writing a description anew without a switch or a cable.
-ghost use Rattle.std.specs.Prelude.{◌≡◌, ◌+◌, ◌*◌, ◌<◌, ◌≤◌, length, MatchResult};
+ghost use Rattle.std.specs.Prelude.{◌≡◌, count_by, ◌+◌, ◌*◌, ◌<◌, ◌≤◌, length, MatchResult};
+ghost use Rattle.std.specs.List.{range_with_len};
 ghost use Rattle.topology_rules.specs.Format.{switch_count, cable_count};
 ghost use Rattle.topology_rules.specs.Answers.{onto};
 ghost use Rattle.topology_rules.specs.Edit.{header, switch_record, cable_record, clear};
 ghost use Rattle.topology.specs.declared.refusal.Reason.TheVariants.{LittleRoom};
 ghost use Rattle.topology.specs.Inside.{Written};
-ghost use Rattle.topology.specs.Omitted.{cable_stays, position};
+ghost use Rattle.topology.specs.Omitted.{switch_stays, cable_stays, position};
 ghost use Rattle.topology.specs.Left.{switches_left, cables_left, switch_records, cable_records, left};
 
 use super::omitted::Omitted;
@@ -61,30 +62,24 @@ impl<'a> Part<'a> {
         }
     }
 
-    // How many switches stay. `filter().count()` over the range was tried: what it counts was not proved.
+    // How many switches stay.
     fn switches_left(&self) -> usize
-        ensures { (result ≡ length (switches_left self.now)) × (result ≤ 64) }
+        ensures count { result ≡ count_by (switch_stays self.now.without) (range_with_len 0 (switch_count self.now.records)) }
+        ensures few { result ≤ 64 }
     {
-        let mut n = 0;
-        for i in 0..self.records.switches() {
-            if self.without.keeps_switch(i) {
-                n += 1;
-            }
-        }
-        n
+        (0..self.records.switches())
+            .filter(|&i| self.without.keeps_switch(i))
+            .count()
     }
 
     // How many cables stay.
     fn cables_left(&self) -> usize
-        ensures { (result ≡ length (cables_left self.now)) × (result ≤ 384) }
+        ensures count { result ≡ count_by (cable_stays self.now.records self.now.without) (range_with_len 0 (cable_count self.now.records)) }
+        ensures few { result ≤ 384 }
     {
-        let mut n = 0;
-        for c in 0..self.records.cables() {
-            if self.keeps_cable(c) {
-                n += 1;
-            }
-        }
-        n
+        (0..self.records.cables())
+            .filter(|&c| self.keeps_cable(c))
+            .count()
     }
 
     // Cable record c as it is then.
@@ -113,7 +108,8 @@ impl<'a> Part<'a> {
         at
     }
 
-    // The cable records that stay, from `from` on; where they end. One function for both kinds of record would take a closure for the test and one for the record beside `out` and `from`, and be no plainer.
+    // The cable records that stay, from `from` on; where they end.
+    // One function for both kinds would take two closures beside `out` and `from`, and be no plainer.
     fn put_cables(&self, out: &mut [u8], from: usize) -> usize
         requires { from + 4 * length (cables_left self.now) ≤ length out.old }
         ensures { Written out.old from (cable_records self.now) out.new result }

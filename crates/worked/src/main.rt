@@ -1,6 +1,7 @@
 //! Prints level, parent's number and parent port of the switch with UID 2 in the description on standard input.
 #![tactic(auto)]
 
+use planner::Plan;
 use std::io;
 use std::io::Write;
 use streams::read_full;
@@ -11,7 +12,8 @@ fn digit(x: u8) -> u8 {
 }
 
 fn main(rt: HostRuntime) -> io::Result<()> {
-    let mut kept = [0u8; 2058];
+    // As in `plan`: a fixed size, and nothing is allocated.
+    let mut kept = [0u8; Plan::KEPT];
     let n = read_full(&mut rt.reader(), &mut kept)?;
     match planner::where_stands(&kept[..n], 2) {
         Ok(s) => {

@@ -21,19 +21,19 @@ returns-in_err-c c =
     let g = pull_none _ _ c.in_ok-net.ensures.answer there.0 _ _ _ there.1 (rw same at c.in_err-c.ensures.found) in
     rw (returned _ c.from_residual-in_err-c.ensures.1, c.in_err-c.ensures.missing) (record { answer = g.0; output = g.1 })
 
-pub returns-in_err-length : goal.returns-in_err-length
-returns-in_err-length c =
+pub returns-in_err-write : goal.returns-in_err-write
+returns-in_err-write c =
     let same : c.net.inside.records ≡ c.args.d.now = c.net.view_is ∙ c.in_ok-net.ensures.bytes in
     let there = rw c.in_ok-net.ensures.bytes at c.in_ok-x.ensures.found in
     let cable = rw same at c.in_ok-c.ensures.found in
-    let g = pull_little _ _ c.in_ok-net.ensures.answer there.0 _ _ _ there.1 cable.0 _ cable.1 (rw same at c.in_err-length.ensures.room) in
-    rw (returned _ c.from_residual-in_err-length.ensures.1, c.in_err-length.ensures.ok.0, c.in_err-length.ensures.ok.1) (record { answer = g.0; output = g.1 })
+    let g = pull_little _ _ c.in_ok-net.ensures.answer there.0 _ _ _ there.1 cable.0 _ cable.1 (rw same at c.in_err-write.ensures.room) in
+    rw (returned _ c.from_residual-in_err-write.ensures.1, c.in_err-write.ensures.ok.0, c.in_err-write.ensures.ok.1) (record { answer = g.0; output = g.1 })
 
 pub returns : goal.returns
 returns c =
     let same : c.net.inside.records ≡ c.args.d.now = c.net.view_is ∙ c.in_ok-net.ensures.bytes in
     let there = rw c.in_ok-net.ensures.bytes at c.in_ok-x.ensures.found in
     let cable = rw same at c.in_ok-c.ensures.found in
-    let written = rw same at c.in_ok-length.ensures.ok in
-    let g = pull_written _ _ c.in_ok-net.ensures.answer there.0 _ _ _ there.1 cable.0 _ cable.1 (rw same at c.in_ok-length.ensures.room) _ _ written.0 written.1 in
+    let written = rw same at c.in_ok-write.ensures.ok in
+    let g = pull_written _ _ c.in_ok-net.ensures.answer there.0 _ _ _ there.1 cable.0 _ cable.1 (rw same at c.in_ok-write.ensures.room) _ _ written.0 written.1 in
     record { answer = g.0; output = g.1 }

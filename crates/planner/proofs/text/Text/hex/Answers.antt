@@ -1,12 +1,10 @@
--- A digit more is the next lower one.
-use Rattle.planner.proofs.Numerals.{hex_begun, hex_room, hex_next}
+-- The library's digits of the lowest six bytes are the rules'.
+use Rattle.std.proofs.Common.{arith, ap, ◌∙◌, length, ◌++◌}
+use Rattle.planner.proofs.Numerals.{hex_same}
 use Rattle.planner.proofs.text.Text.hex.Goals as goal
 
-pub loop-place-init : goal.loop-place-init
-loop-place-init c = hex_begun c.args.u _
+pub push_all-requires : goal.push_all-requires
+push_all-requires c = omega (arith, c.requires, ap length (rw c.unwrap.ensures at c.encode_to_slice.ensures.written ∙ hex_same c.args.u c.to_be_bytes.ensures))
 
-pub push-requires : goal.push-requires
-push-requires c = let l = c.loop-place in hex_room c.args.u _ l.place l.invariant c.loop-place-test.true l.auto.place c.requires
-
-pub loop-place-preserved : goal.loop-place-preserved
-loop-place-preserved c = let l = c.loop-place in hex_next c.args.u _ l.place l.invariant c.loop-place-test.true l.auto.place c.hex_digit.ensures c.push.ensures
+pub returns : goal.returns
+returns c = c.push_all.ensures ∙ ap (λ l. c.args.self.now ++ l) (rw c.unwrap.ensures at c.encode_to_slice.ensures.written ∙ hex_same c.args.u c.to_be_bytes.ensures)
