@@ -49,7 +49,7 @@ fn choose(best: &mut [Option<u16>; Topology::SWITCHES], levels: &Levels<'_>, ch:
     }
 }
 
-// The channel over the parent cable of every switch; none for a root.
+// The channel over the parent cable of every switch, in a row for as many as there can be; none for a root.
 // One pass over the channels serves all switches; a search for each switch would pass over them once per switch.
 pub fn parents(levels: &Levels<'_>) -> [Option<u16>; Topology::SWITCHES]
     ensures { Finds levels.now result }

@@ -1,14 +1,10 @@
 -- What an accepted description says of its net, as the code reads it: r as it was read, d as it is seen.
-use mathlib.Core.Path.{◌≡◌, refl, ap, ◌∙◌}
+use mathlib.Core.Path.{◌≡◌, refl, ◌∙◌}
 use mathlib.Core.List.{List}
 use Prim.Native.Nat.{ℕ, ◌*◌, ◌<◌, ◌≤◌}
-use lib.Dec.{eqb}
-use Rattle.topology_rules.specs.Count.{both}
-use Rattle.topology_rules.specs.Format.{ends_at, switch_count, cable_count, uid_at, end_switch, end_port}
+use Rattle.topology_rules.specs.Format.{switch_count, cable_count, uid_at, end_switch, end_port}
 use Rattle.topology_rules.specs.Net.{net_of, target, back}
 use Rattle.topology_rules.specs.Accepted.{Accepted}
-use Rattle.topology.specs.End.{end_at}
-use Rattle.topology.specs.declared.records.End.{End}
 use Rattle.topology_rules.proofs.Soundness.{well_formed}
 use Rattle.topology_rules.proofs.Channels.{target_switch}
 
@@ -35,7 +31,3 @@ module _ (r d : List ℕ) (seen : r ≡ d) where
     pub port_is : {x : ℕ} → x ≡ end_port r ch → (x ≡ (net_of d).out_port ch) × (x ≤ 12)
     unfolding net_of
     port_is {x = x} e = let f : x ≡ end_port d ch = rw (← seen) e in (f, rw f ((well_formed d now).by_a_port ch there).1)
-
--- an end's place, as it was read
-pub at_end : (d : List ℕ) (e x p : ℕ) {end : End} → end ≡ end_at d e → both (eqb end.switch x) (eqb end.port p) ≡ ends_at d x p e
-at_end d e x p same = ap (λ (y : End). both (eqb y.switch x) (eqb y.port p)) same

@@ -35,7 +35,7 @@ fn back(ch: usize) -> usize
     if ch % 2 == 0 { ch + 1 } else { ch - 1 }
 }
 
-// The clauses named `accepted` tell callers the invariant: they see only the bytes.
+// Switches and channels are asked for by index, as in `Records`. The clauses named `accepted` tell callers the invariant: they see only the bytes.
 impl<'a> Net<'a> {
     /// How many switches there are.
     pub fn switches(&self) -> usize

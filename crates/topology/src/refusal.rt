@@ -41,7 +41,7 @@ pub struct Refusal {
 }
 
 impl Reason {
-    // Refused for this reason at record i; at 0 where the rules say so, which the edit `position_off_by_one` turns into 1.
+    // Refused for this reason at record i, or at 0 where no record is named: every refusal is made the same way.
     pub(crate) fn at(self, i: usize) -> Refusal
         requires { i < 2 ^ 16 }
         ensures { result ≡ record { reason = self; position = i } }

@@ -4,7 +4,7 @@ ghost use Rattle.std.specs.Prelude.{◌≡◌, ◌<◌, ◌≤◌, ℕ, [], leng
 use super::Topology;
 use super::records::End;
 
-/// A mark for each port of each switch, port 0 with them.
+/// A mark for each port of as many switches as there can be, port 0 with them.
 #[derive(Drop)]
 pub struct Used {
     marks: [[bool; 13]; Topology::SWITCHES],

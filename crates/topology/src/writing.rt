@@ -93,7 +93,7 @@ impl<'a> Part<'a> {
         [first, one.port, second, other.port]
     }
 
-    // The switch records that stay, from `from` on; where they end.
+    // The switch records that stay, from `from` on, which what stands before them decides; where they end.
     fn put_switches(&self, out: &mut [u8], from: usize) -> usize
         requires { from + 8 * length (switches_left self.now) ≤ length out.old }
         ensures { Written out.old from (switch_records self.now) out.new result }
