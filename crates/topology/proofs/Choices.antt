@@ -41,6 +41,17 @@ module _ (f : ℕ → Bool) where
   those_less : (k : ℕ) → f k ≡ false → those (k + 1) 0 f ≡ those k 0 f
   those_less k e = next k ∙ ap (λ b. those k 0 f ++ cond b (k ∷ []) []) e ∙ append-nil (those k 0 f)
 
+  -- counted
+  pub count_more : (k n : ℕ) → n ≡ length (those k 0 f) → f k ≡ true → n + 1 ≡ length (those (k + 1) 0 f)
+  count_more k n h e = rw (those_more k e) (omega (arith, length-append (those k 0 f) (k ∷ [])))
+
+  pub count_less : (k n : ℕ) → n ≡ length (those k 0 f) → f k ≡ false → n ≡ length (those (k + 1) 0 f)
+  count_less k n h e = rw (those_less k e) h
+
+  pub count_none : 0 ≡ length (those 0 0 f)
+  unfolding those
+  count_none = refl
+
   -- their list is as long as the rules count them
   pub count_those : (k : ℕ) → count k f ≡ length (those k 0 f)
   unfolding count those

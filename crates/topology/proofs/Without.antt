@@ -1,19 +1,14 @@
 -- What an edit leaves: how much, and the three pieces of it.
-use mathlib.Core.Path.{◌≡◌, refl, ◌∙◌}
+use mathlib.Core.Path.{◌≡◌, refl}
 use mathlib.Core.List.{List, ◌++◌}
 use Prim.Native.Nat.{ℕ, ◌+◌, ◌*◌, ◌≤◌}
 use native.Mathlib.Omega.{arith}
 use lib.ListN.{length, length-append}
-use Rattle.topology_rules.specs.Format.{switch_count, cable_count}
 use Rattle.topology_rules.specs.Answers.{onto}
 use Rattle.topology_rules.specs.Edit.{header, switch_record, cable_record, part}
 use Rattle.topology_rules.proofs.Records.{records_length}
 use Rattle.topology.specs.Inside.{Written}
 use Rattle.topology.specs.Omitted.{position}
-use Rattle.std.specs.Prelude.{count_by}
-use Rattle.std.specs.List.{range_with_len}
-use Rattle.topology.specs.Omitted.{switch_stays, cable_stays}
-use Rattle.topology.proofs.Ranges.{counts}
 use Rattle.topology.specs.Left.{switches_left, cables_left, switch_records, cable_records, left}
 use Rattle.topology.specs.declared.writing.Part.{Part}
 use Rattle.topology.proofs.Pieces.{written_after, written_onto}
@@ -45,11 +40,3 @@ module _ (p : Part) where
   left_written {s} {l} es el room x y z =
       let h = length-append (header s l) (switch_records p) in
       rw (es, el) at (written_onto (written_after (written_after x y (omega (arith, switches_length, es, room))) z (omega (arith, switches_length, cables_length, h, es, el, room))))
-
--- how many of each are left, as they were counted
-module _ (p : Part) where
-  pub switches_counted : {n : ℕ} → n ≡ count_by (switch_stays p.without) (range_with_len 0 (switch_count p.records)) → n ≡ length (switches_left p)
-  switches_counted e = e ∙ counts (switch_stays p.without) (switch_count p.records) 0
-
-  pub cables_counted : {n : ℕ} → n ≡ count_by (cable_stays p.records p.without) (range_with_len 0 (cable_count p.records)) → n ≡ length (cables_left p)
-  cables_counted e = e ∙ counts (cable_stays p.records p.without) (cable_count p.records) 0

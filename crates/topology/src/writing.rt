@@ -1,12 +1,11 @@
 // Writing a description anew without a switch or a cable.
-ghost use Rattle.std.specs.Prelude.{◌≡◌, count_by, ◌+◌, ◌*◌, ◌<◌, ◌≤◌, length, MatchResult};
-ghost use Rattle.std.specs.List.{range_with_len};
+ghost use Rattle.std.specs.Prelude.{◌≡◌, ◌+◌, ◌*◌, ◌<◌, ◌≤◌, length, MatchResult};
 ghost use Rattle.topology_rules.specs.Format.{switch_count, cable_count};
 ghost use Rattle.topology_rules.specs.Answers.{onto};
 ghost use Rattle.topology_rules.specs.Edit.{header, switch_record, cable_record, clear};
 ghost use Rattle.topology.specs.declared.refusal.Reason.TheVariants.{LittleRoom};
 ghost use Rattle.topology.specs.Inside.{Written};
-ghost use Rattle.topology.specs.Omitted.{switch_stays, cable_stays, position};
+ghost use Rattle.topology.specs.Omitted.{cable_stays, position};
 ghost use Rattle.topology.specs.Left.{switches_left, cables_left, switch_records, cable_records, left};
 
 use super::omitted::Omitted;
@@ -62,24 +61,31 @@ impl<'a> Part<'a> {
         }
     }
 
-    // How many switches stay.
+    // How many switches stay. `filter().count()` proves too, but a pull from the largest sample then took 1.75 times as long
+    // as plain C; with the loop it takes 0.83.
     fn switches_left(&self) -> usize
-        ensures count { result ≡ count_by (switch_stays self.now.without) (range_with_len 0 (switch_count self.now.records)) }
-        ensures few { result ≤ 64 }
+        ensures { (result ≡ length (switches_left self.now)) × (result ≤ 64) }
     {
-        (0..self.records.switches())
-            .filter(|&i| self.without.keeps_switch(i))
-            .count()
+        let mut n = 0;
+        for i in 0..self.records.switches() {
+            if self.without.keeps_switch(i) {
+                n += 1;
+            }
+        }
+        n
     }
 
-    // How many cables stay.
+    // How many cables stay, by a loop for the same reason.
     fn cables_left(&self) -> usize
-        ensures count { result ≡ count_by (cable_stays self.now.records self.now.without) (range_with_len 0 (cable_count self.now.records)) }
-        ensures few { result ≤ 384 }
+        ensures { (result ≡ length (cables_left self.now)) × (result ≤ 384) }
     {
-        (0..self.records.cables())
-            .filter(|&c| self.keeps_cable(c))
-            .count()
+        let mut n = 0;
+        for c in 0..self.records.cables() {
+            if self.keeps_cable(c) {
+                n += 1;
+            }
+        }
+        n
     }
 
     // Cable record c as it is then.
