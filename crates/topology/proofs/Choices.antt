@@ -59,8 +59,8 @@ module _ (f : ℕ → Bool) where
   count_those (suc k) = go (f k) refl (count_those k)
     where
       go : (b : Bool) → b ≡ f k → count k f ≡ length (those k 0 f) → cond b (suc (count k f)) (count k f) ≡ length (those (suc k) 0 f)
-      go true e c = rw (← add-one k, those_more k (sym e)) (omega (arith, c, length-append (those k 0 f) (k ∷ [])))
-      go false e c = rw (← add-one k, those_less k (sym e)) c
+      go true e c = rw (← add-one k) (rw (add-one (count k f)) at (count_more k (count k f) c (sym e)))
+      go false e c = rw (← add-one k) (count_less k (count k f) c (sym e))
 
   -- where k passes, more pass below n
   those_room : (n k : ℕ) → k < n → f k ≡ true → length (those k 0 f) < length (those n 0 f)

@@ -12,7 +12,7 @@ use Rattle.topology.specs.Reasons.{number_of, refusal_of, verdict_of, reply_of}
 use Rattle.topology.specs.declared.refusal.Reason.{Reason}
 use Rattle.topology.specs.declared.refusal.Reason.TheVariants.{Short, Mark, Version, SwitchCount, CableCount, Length, Uid, Hosts, EndSwitch, EndPort, OneSwitch, PortTaken, NoSuchUid, OnlySwitch, NoCable, LittleRoom, Unsound, NoSuchPlace, BadAddress, ChannelEmpty, PortForbidden, ChannelTaken}
 use Rattle.topology.specs.declared.refusal.Refusal.{Refusal}
-use Rattle.std.specs.Prelude.{Result, Ok, Err, IfOk}
+use Rattle.std.specs.Prelude.{Result, Ok, Err, IfOk, IfErr, OkIff}
 
 -- the reasons in the order of their numbers
 all : List Reason
@@ -76,6 +76,13 @@ check_once d (Ok n) (Ok m) (e, f) (g, h) = ap Ok (f ∙ sym h)
 check_once d (Ok n) (Err q) (e, f) (g, h) = absurd (omega (arith, some_number q.reason, ap (λ v. v.number) (e ∙ sym g)))
 check_once d (Err r) (Ok m) (e, f) (g, h) = absurd (omega (arith, some_number r.reason, ap (λ v. v.number) (e ∙ sym g)))
 check_once d (Err r) (Err q) (e, f) (g, h) = ap Err (refusal_once r q (e ∙ sym g))
+
+-- What a search promises: the number, or its one error.
+pub search_once : (P : Type 0) (v : ℕ) (k : Reason) (r q : Result ℕ Reason) → OkIff r P v → IfErr r (λ j. j ≡ k) → OkIff q P v → IfErr q (λ j. j ≡ k) → r ≡ q
+search_once P v k (Ok i) (Ok j) a e b f = ap Ok (a.1 ∙ sym b.1)
+search_once P v k (Ok i) (Err j) a e b f = absurd (b a.0)
+search_once P v k (Err i) (Ok j) a e b f = absurd (a b.0)
+search_once P v k (Err i) (Err j) a e b f = ap Err (e ∙ sym f)
 
 pub find_once : (d : List ℕ) (u : ℕ) (r q : Result ℕ Refusal) → reply_of r ≡ find_reply d u → reply_of q ≡ find_reply d u → r ≡ q
 find_once d u r q e f = reply_once r q (e ∙ sym f)
