@@ -25,6 +25,15 @@ digits_more : (k x : ℕ) → 10 ≤ x → digits (suc k) x ≡ digits k (x / 10
 unfolding digits
 digits_more k x h = grind (arith)
 
+-- enough digits are all digits
+pub digits_enough : (k m x : ℕ) → x < k → x < m → digits k x ≡ digits m x
+digits_enough zero m x h l = absurd (omega arith)
+digits_enough (suc k) zero x h l = absurd (omega arith)
+digits_enough (suc k) (suc m) x h l = elim (split x 10) [
+  | inl s ↦ digits_one k x s ∙ sym (digits_one m x s)
+  | inr s ↦ digits_more k x s ∙ ap (λ l. l ++ (48 + x % 10) ∷ []) (digits_enough k m (x / 10) (omega arith) (omega arith)) ∙ sym (digits_more m x s)
+]
+
 -- the library prints every number of the machine as the rules do
 pub decimal_same : (x : ℕ) → x < 2 ^ 64 → std.decimal x ≡ decimal x
 decimal_same x small = sym (decimal_from_appends digits (record { one = digits_one; more = digits_more }) (suc x) x small (omega (arith, length-decimal-le_succ x small)))

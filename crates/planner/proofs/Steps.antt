@@ -1,6 +1,6 @@
 -- What a loop changes and tests step by step.
 use Prim.Native.Nat.{ℕ, suc, zero, ◌+◌, ◌<◌}
-use mathlib.Core.Path.{◌≡◌, refl, ap, ◌∙◌}
+use mathlib.Core.Path.{◌≡◌, refl, sym, ap, ◌∙◌}
 use mathlib.Core.Logic.{◌⊎◌, inl, inr}
 use mathlib.Core.List.{List}
 use mathlib.Core.Bool.{Bool, true, false, ◌||◌}
@@ -10,8 +10,9 @@ use lib.Dec.{eqb, eqb→eq}
 use lib.ListN.{get_or, set, length, replicate}
 use lib.Seq.{get_or-set_same, get_or-set_other}
 use Rattle.topology_rules.specs.Count.{any}
+use Rattle.planner.specs.Rows.{Tells}
 use Rattle.planner.specs.Rounds.{in_turn}
-use Rattle.topology_rules.proofs.Tests.{decide, eq→eqb}
+use Rattle.topology_rules.proofs.Tests.{decide, split, eq→eqb}
 
 module _ {A : Type 0} where
   -- k times v, and v past its end
@@ -43,6 +44,13 @@ module _ {A : Type 0} where
     unfolding in_turn
     turn_keeps P zero f p s = p
     turn_keeps P (suc k) f p s = s k (in_turn k step f) (omega arith) (turn_keeps P k f p (λ i g h. s i g (omega arith)))
+
+-- a list filled from the front
+pub tells_next : (l : List ℕ) (f : ℕ → ℕ) (i v : ℕ) → i < length l → Tells i l f → v ≡ f i → Tells (i + 1) (set l i v) f
+tells_next l f i v h t e j b = elim (set_cases l i j v 0 h) [
+  | inl c ↦ c.1 ∙ e ∙ ap f (sym c.0)
+  | inr c ↦ c.1 ∙ t j (elim (split j i) [ inl s ↦ s | inr s ↦ absurd (c.0 (omega arith)) ])
+]
 
 -- A test at each of the steps passed.
 module _ (f : ℕ → Bool) where

@@ -2,7 +2,8 @@
 use Rattle.std.specs.Prelude.{ℕ, suc, zero, ◌+◌, ◌<◌, ◌≤◌, ◌≡◌, Bool, not, cond, List, length, Option, Some, None, is_some, slice_index, slice_index_or, slice_set, nat_eq, nat_lt, nat_le}
 use Rattle.std.specs.Option.{option_eq}
 use Rattle.topology_rules.specs.Count.{both}
-use Rattle.topology_rules.specs.Net.{Net, target}
+use Rattle.topology_rules.specs.Format.{switch_count}
+use Rattle.topology_rules.specs.Net.{Net, net_of, target}
 use Rattle.planner_rules.specs.Tree.{level}
 use Rattle.planner.specs.Rows.{Below}
 
@@ -53,6 +54,12 @@ settled_over n k ch f = settled k (n.source ch) (target n ch) f
 -- the level of a switch once the rounds before k are done; none while it is not settled
 abbrev pub settled_by : Net → ℕ → ℕ → Option ℕ
 settled_by n k s = cond (nat_le (level n s) k) (Some (level n s)) None
+
+-- 64 places, in which each switch of description d has its level
+pub record Leveled (d : List ℕ) (f : List (Option ℕ)) : Type 0 where
+  pub whole : length f ≡ 64
+  pub few : switch_count d ≤ 64
+  pub each : (s : ℕ) → s < switch_count d → slice_index_or f s None ≡ Some (level (net_of d) s)
 
 -- 64 levels, each as it stands then
 pub record Settled (n : Net) (k : ℕ) (f : List (Option ℕ)) : Type 0 where

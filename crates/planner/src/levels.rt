@@ -6,32 +6,33 @@ ghost use Rattle.planner_rules.specs.Tree.{level as level_of};
 ghost use Rattle.planner.specs.Rounds.{in_turn, settled, settled_over};
 
 use crate::roots::roots;
+use crate::wiring::Wiring;
 use std::marker::Model;
-use topology::{Net, Topology};
+use topology::Topology;
 
 /// A net with the level of each of its switches, in a row for as many as there can be: nothing is allocated.
 #[derive(Drop)]
 pub struct Levels<'a> {
-    net: &'a Net<'a>,
-    level: [u8; Topology::SWITCHES],
+    net: &'a Wiring<'a>,
+    level: [Option<u8>; Topology::SWITCHES],
 }
 
 impl<'a> Model for Levels<'a> {
-    ghost use Rattle.std.specs.Prelude.{ℕ, List, ◌≤◌};
-    ghost use Rattle.topology_rules.specs.Format.{switch_count};
-    ghost use Rattle.topology_rules.specs.Net.{net_of};
-    ghost use Rattle.planner_rules.specs.Tree.{level as level_of};
-    ghost use Rattle.planner.specs.Rows.{Tells};
+    ghost use Rattle.std.specs.Prelude.{ℕ, List};
+    ghost use Rattle.planner.specs.Rounds.{Leveled};
 
     ghost Value = { List ℕ };
 
     ghost view = { λ l. l.net.now };
 
-    ghost invariant = { λ l. (switch_count l.net.now ≤ 64) × Tells (switch_count l.net.now) l.level (level_of (net_of l.net.now)) };
+    ghost invariant = { λ l. Leveled l.net.now l.level };
 }
 
 // The levels before the first round: a root has level 0, and no other switch has one yet.
-fn first_levels(net: &Net<'_>, root: &[u8; Topology::SWITCHES]) -> [Option<u8>; Topology::SWITCHES]
+fn first_levels(
+    net: &Wiring<'_>,
+    root: &[u8; Topology::SWITCHES],
+) -> [Option<u8>; Topology::SWITCHES]
     ensures whole { length result ≡ 64 }
     ensures each { (s : ℕ) → s < switch_count net.now → slice_index_or result s None ≡ cond (nat_eq (slice_index root.now s) s) (Some 0) None }
 {
@@ -49,13 +50,13 @@ fn settle(level: &mut [Option<u8>; Topology::SWITCHES], a: usize, b: usize, k: u
     requires { (a < 64) × (b < 64) × (k < 64) }
     ensures { level.new ≡ settled k a b level.old }
 {
-    if level[b] == Some(k) && level[a].is_none() {
+    if level[a].is_none() && level[b] == Some(k) {
         level[a] = Some(k + 1);
     }
 }
 
 // Every channel, in round k.
-fn round(net: &Net<'_>, level: &mut [Option<u8>; Topology::SWITCHES], k: u8)
+fn round(net: &Wiring<'_>, level: &mut [Option<u8>; Topology::SWITCHES], k: u8)
     requires { k < 64 }
     ensures { level.new ≡ in_turn (net_of net.now).channels (settled_over (net_of net.now) k) level.old }
 {
@@ -66,7 +67,7 @@ fn round(net: &Net<'_>, level: &mut [Option<u8>; Topology::SWITCHES], k: u8)
 
 impl<'a> Levels<'a> {
     /// A net with its levels: of every switch the fewest cables to its root.
-    pub fn new(net: &'a Net<'a>) -> Levels<'a>
+    pub fn new(net: &'a Wiring<'a>) -> Levels<'a>
         ensures { result ≡ net.now }
     {
         let root = roots(net);
@@ -77,13 +78,11 @@ impl<'a> Levels<'a> {
             }
             round(net, &mut level, k);
         }
-        // The places past the last switch have no level.
-        let level = level.map(|l| l.unwrap_or(0));
         Levels { net, level }
     }
 
     /// The net.
-    pub fn net(&self) -> &'a Net<'a>
+    pub fn net(&self) -> &'a Wiring<'a>
         ensures { result.now ≡ self.now }
     {
         self.net
@@ -94,6 +93,8 @@ impl<'a> Levels<'a> {
         requires { s < switch_count self.now }
         ensures { result ≡ level_of (net_of self.now) s }
     {
-        self.level[s]
+        // The invariant is known only where a field is used, and the index needs it.
+        let level = &self.level;
+        level[s].unwrap()
     }
 }

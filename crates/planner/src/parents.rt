@@ -6,7 +6,8 @@ ghost use Rattle.planner_rules.specs.Tree.{preferred};
 ghost use Rattle.planner.specs.Choices.{leads_up, improves, chosen_over, Channels, Finds};
 
 use crate::levels::Levels;
-use topology::{Net, Topology};
+use crate::wiring::Wiring;
+use topology::Topology;
 
 // Whether a channel leads one level lower.
 fn leads_up(levels: &Levels<'_>, ch: usize) -> bool
@@ -18,7 +19,7 @@ fn leads_up(levels: &Levels<'_>, ch: usize) -> bool
 }
 
 // Whether channel a is preferred to b: the lower UID at its far end, then the lower port.
-fn comes_before(net: &Net<'_>, a: usize, b: usize) -> bool
+fn comes_before(net: &Wiring<'_>, a: usize, b: usize) -> bool
     requires { (a < 2 * cable_count net.now) × (b < 2 * cable_count net.now) }
     ensures { result ≡ preferred (net_of net.now) a b }
 {
@@ -26,7 +27,7 @@ fn comes_before(net: &Net<'_>, a: usize, b: usize) -> bool
 }
 
 // Whether a channel takes the place of the one kept so far.
-fn improves(net: &Net<'_>, kept: Option<u16>, ch: usize) -> bool
+fn improves(net: &Wiring<'_>, kept: Option<u16>, ch: usize) -> bool
     requires { (ch < 2 * cable_count net.now) × IfSome kept (λ k. k < 2 * cable_count net.now) }
     ensures { result ≡ improves (net_of net.now) kept ch }
 {

@@ -7,12 +7,13 @@ use super::Plan;
 use crate::printing::{plan, refused};
 use crate::text::Text;
 use crate::tree::Tree;
+use topology::Net;
 
 // The plan of any bytes, or the line of their first refusal.
 fn text_of(d: &[u8]) -> Text
     ensures { result ≡ printed d.now }
 {
-    match topology::check(d) {
+    match Net::read(d) {
         Ok(net) => plan(&Tree::grow(net)),
         Err(refusal) => refused(refusal),
     }

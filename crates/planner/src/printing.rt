@@ -19,7 +19,8 @@ enum Field {
     Uid(u64),
 }
 
-// A space and a field.
+// A space and a field. Inlined with `line`, it knows at each call which kind of field it is.
+#[inline(always)]
 fn put_field(text: &mut Text, f: Field)
     requires { HasRoom text.old (space ∷ field_text f) }
     ensures { text.new ≡ text.old ++ space ∷ field_text f }
@@ -32,6 +33,7 @@ fn put_field(text: &mut Text, f: Field)
 }
 
 // A word, its fields, and the end of the line.
+#[inline(always)]
 fn line(text: &mut Text, word: &[u8], fs: &[Field])
     requires { HasRoom text.old (line word.now (map field_text fs.now)) }
     ensures { text.new ≡ text.old ++ line word.now (map field_text fs.now) }
@@ -45,12 +47,11 @@ fn line(text: &mut Text, word: &[u8], fs: &[Field])
 
 // Lines are put into a text from a tree; a type of both would have no fact of its own.
 
-// The line of the switch with number k.
-fn switch_line(text: &mut Text, tree: &Tree<'_>, k: usize)
-    requires { (holder (net_of tree.now) k < switch_count tree.now) × HasRoom text.old (switch_line (net_of tree.now) k) }
+// The line of switch s, which has number k.
+fn switch_line(text: &mut Text, tree: &Tree<'_>, s: usize, k: usize)
+    requires { (s < switch_count tree.now) × (s ≡ holder (net_of tree.now) k) × HasRoom text.old (switch_line (net_of tree.now) k) }
     ensures { text.new ≡ text.old ++ switch_line (net_of tree.now) k }
 {
-    let s = tree.holder(k);
     let fields = [
         Field::Number(k),
         Field::Uid(tree.uid(s)),
@@ -74,8 +75,9 @@ fn switch_lines(text: &mut Text, tree: &Tree<'_>)
     requires { HasRoom text.old (switch_lines tree.now) }
     ensures { text.new ≡ text.old ++ switch_lines tree.now }
 {
+    let holder = tree.holders();
     for k in 1..=tree.switches() {
-        switch_line(text, tree, k);
+        switch_line(text, tree, holder[k - 1] as usize, k);
     }
 }
 

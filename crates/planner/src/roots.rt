@@ -7,10 +7,11 @@ ghost use Rattle.planner_rules.specs.Tree.{root as root_of};
 ghost use Rattle.planner.specs.Rows.{Tells};
 ghost use Rattle.planner.specs.Rounds.{Row, in_turn, lowers, lowers_over, lifted, lifted_over};
 
-use topology::{Net, Topology};
+use crate::wiring::Wiring;
+use topology::Topology;
 
 // The root of a becomes that of b where that has the lower UID; whether it did.
-fn lift(net: &Net<'_>, root: &mut [u8; Topology::SWITCHES], a: usize, b: usize) -> bool
+fn lift(net: &Wiring<'_>, root: &mut [u8; Topology::SWITCHES], a: usize, b: usize) -> bool
     requires { (a < switch_count net.now) × (b < switch_count net.now) × Row (switch_count net.now) root.old }
     ensures lowers { result ≡ lowers (net_of net.now) a b root.old }
     ensures lifts { root.new ≡ lifted (net_of net.now) a b root.old }
@@ -26,7 +27,7 @@ fn lift(net: &Net<'_>, root: &mut [u8; Topology::SWITCHES], a: usize, b: usize) 
 }
 
 // Over every channel once; whether a root changed.
-fn lift_all(net: &Net<'_>, root: &mut [u8; Topology::SWITCHES]) -> bool
+fn lift_all(net: &Wiring<'_>, root: &mut [u8; Topology::SWITCHES]) -> bool
     requires { Row (switch_count net.now) root.old }
     ensures changes { result ≡ any (net_of net.now).channels (lowers_over (net_of net.now) root.old) }
     ensures lifts { root.new ≡ in_turn (net_of net.now).channels (lifted_over (net_of net.now)) root.old }
@@ -40,7 +41,7 @@ fn lift_all(net: &Net<'_>, root: &mut [u8; Topology::SWITCHES]) -> bool
 }
 
 // Each switch is its own root. A row has an entry for each switch that there can be, as nothing is allocated.
-fn own_roots(net: &Net<'_>) -> [u8; Topology::SWITCHES]
+fn own_roots(net: &Wiring<'_>) -> [u8; Topology::SWITCHES]
     ensures { (length result ≡ 64) × Tells (switch_count net.now) result (λ s. s) }
 {
     let mut root = [0; Topology::SWITCHES];
@@ -51,7 +52,7 @@ fn own_roots(net: &Net<'_>) -> [u8; Topology::SWITCHES]
 }
 
 // The root of every switch: the lowest UID of its component.
-pub fn roots(net: &Net<'_>) -> [u8; Topology::SWITCHES]
+pub fn roots(net: &Wiring<'_>) -> [u8; Topology::SWITCHES]
     ensures { Tells (switch_count net.now) result (root_of (net_of net.now)) }
 {
     let mut root = own_roots(net);

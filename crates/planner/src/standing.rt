@@ -5,13 +5,13 @@ ghost use Rattle.planner.specs.Answers.{stand_of};
 
 use super::Stand;
 use crate::tree::Tree;
-use topology::Refusal;
+use topology::{Net, Refusal};
 
 /// Level, parent's number and parent port of the switch with that UID, or the first refusal of 1 to 13.
 pub fn where_stands(d: &[u8], uid: u64) -> Result<Stand, Refusal>
     ensures { stand_of result ≡ stands d.now uid }
 {
-    let net = topology::check(d)?;
+    let net = Net::read(d)?;
     let s = net.find(uid)?;
     let tree = Tree::grow(net);
     Ok(Stand {

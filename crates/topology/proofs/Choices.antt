@@ -6,7 +6,7 @@ use Prim.Native.Nat.{ℕ, suc, zero, ◌+◌, ◌*◌, ◌≤◌, ◌<◌}
 use native.Mathlib.Nat.{add-zero, zero-add, mul-suc, mul-le-mul_left}
 use native.Mathlib.Numerals.{add-one}
 use native.Mathlib.Omega.{arith}
-use lib.ListN.{length, length-append}
+use lib.ListN.{get_or, length, length-append}
 use borrow.Rule.Slice.PartMut.{put_mid}
 use Rattle.std.proofs.lemmas.Slice.{put_mid-paste}
 use Rattle.topology_rules.specs.Count.{those, count}
@@ -15,6 +15,23 @@ use Rattle.topology.specs.Inside.{Written}
 use Rattle.topology.proofs.Scans.{true_T}
 use Rattle.topology_rules.proofs.Records.{those_found, records_length}
 use Rattle.topology.proofs.Pieces.{written_none, written_after}
+
+-- tests that agree below a bound choose the same numbers
+pub those_same : (f g : ℕ → Bool) (k a : ℕ) → ((i : ℕ) → i < a + k → f i ≡ g i) → those k a f ≡ those k a g
+unfolding those
+those_same f g zero a same = refl
+those_same f g (suc k) a same = go (f a) (g a) _ _ (same a (omega arith)) (those_same f g k (suc a) (λ i h. same i (omega arith)))
+  where
+    go : (b c : Bool) (l m : List ℕ) → b ≡ c → l ≡ m
+        → ◌≡◌ {A = List ℕ} (elim b as (λ c. List ℕ) [ true ↦ a ∷ l | false ↦ l ]) (elim c as (λ c. List ℕ) [ true ↦ a ∷ m | false ↦ m ])
+    go b true l m e s = rw e (ap (λ x. a ∷ x) s)
+    go b false l m e s = rw e s
+
+-- records that agree one by one
+pub records_same : (r q : ℕ → List ℕ) (is : List ℕ) → ((j : ℕ) → j < length is → r (get_or is j 0) ≡ q (get_or is j 0)) → records r is ≡ records q is
+unfolding records
+records_same r q [] same = refl
+records_same r q (i ∷ is) same = let rest = records_same r q is (λ j h. same (suc j) (omega arith)) in rw (same 0 (omega arith), rest) refl
 
 module _ (f : ℕ → Bool) where
   -- at the end

@@ -12,7 +12,7 @@ use Rattle.topology.specs.Reasons.{number_of, refusal_of, verdict_of, reply_of}
 use Rattle.topology.specs.declared.refusal.Reason.{Reason}
 use Rattle.topology.specs.declared.refusal.Reason.TheVariants.{Short, Mark, Version, SwitchCount, CableCount, Length, Uid, Hosts, EndSwitch, EndPort, OneSwitch, PortTaken, NoSuchUid, OnlySwitch, NoCable, LittleRoom, Unsound, NoSuchPlace, BadAddress, ChannelEmpty, PortForbidden, ChannelTaken}
 use Rattle.topology.specs.declared.refusal.Refusal.{Refusal}
-use Rattle.std.specs.Prelude.{Result, Ok, Err, IfOk, IfErr, OkIff}
+use Rattle.std.specs.Prelude.{Option, Some, None, SomeIff, Result, Ok, Err, IfOk, IfErr, OkIff}
 
 -- the reasons in the order of their numbers
 all : List Reason
@@ -66,16 +66,34 @@ reply_once (Ok i) (Err q) e = absurd cc
 reply_once (Err r) (Ok j) e = absurd cc
 reply_once (Err r) (Err q) e = ap Err (refusal_once r q cc)
 
--- what the check's promise says of its answer: the verdict, and the net that is the description
-abbrev Checks : List ℕ → Result (List ℕ) Refusal → Type 0
-Checks d r = (verdict_of r ≡ verdict d) × IfOk r (λ n. n ≡ d)
+-- Two answers with one verdict are one where what they hold is.
+verdict_once : {A : Type 0} (r q : Result A Refusal) → ((x y : A) → r ≡ Ok x → q ≡ Ok y → x ≡ y) → verdict_of r ≡ verdict_of q → r ≡ q
+verdict_once (Ok n) (Ok m) same e = ap Ok (same n m refl refl)
+verdict_once (Ok n) (Err q) same e = absurd (omega (arith, some_number q.reason, ap (λ v. v.number) e))
+verdict_once (Err r) (Ok m) same e = absurd (omega (arith, some_number r.reason, ap (λ v. v.number) e))
+verdict_once (Err r) (Err q) same e = ap Err (refusal_once r q e)
+
+-- those of checking hold nothing
+pub checked_once : (r q : Result (Unit {0}) Refusal) → verdict_of r ≡ verdict_of q → r ≡ q
+checked_once r q e = verdict_once r q (λ x y p s. refl) e
 
 -- So each public operation's promise allows one outcome.
-pub check_once : (d : List ℕ) (r q : Result (List ℕ) Refusal) → Checks d r → Checks d q → r ≡ q
-check_once d (Ok n) (Ok m) (e, f) (g, h) = ap Ok (f ∙ sym h)
-check_once d (Ok n) (Err q) (e, f) (g, h) = absurd (omega (arith, some_number q.reason, ap (λ v. v.number) (e ∙ sym g)))
-check_once d (Err r) (Ok m) (e, f) (g, h) = absurd (omega (arith, some_number r.reason, ap (λ v. v.number) (e ∙ sym g)))
-check_once d (Err r) (Err q) (e, f) (g, h) = ap Err (refusal_once r q (e ∙ sym g))
+pub check_once : (d : List ℕ) (r q : Result (Unit {0}) Refusal) → verdict_of r ≡ verdict d → verdict_of q ≡ verdict d → r ≡ q
+check_once d r q e f = checked_once r q (e ∙ sym f)
+
+-- what reading a net promises: the verdict, and the net that is the description
+abbrev Reads : List ℕ → Result (List ℕ) Refusal → Type 0
+Reads d r = (verdict_of r ≡ verdict d) × IfOk r (λ n. n ≡ d)
+
+pub net_once : (d : List ℕ) (r q : Result (List ℕ) Refusal) → Reads d r → Reads d q → r ≡ q
+net_once d r q (e, f) (g, h) = verdict_once r q (λ x y p s. let k = rw p at f in let l = rw s at h in k ∙ sym l) (e ∙ sym g)
+
+-- What a net answers of a switch or a channel: what the rules say, where there is such a one.
+pub there_once : (P : Type 0) (v : ℕ) (r q : Option ℕ) → SomeIff r P v → SomeIff q P v → r ≡ q
+there_once P v (Some i) (Some j) a b = ap Some (a.1 ∙ sym b.1)
+there_once P v (Some i) None a b = absurd (b a.0)
+there_once P v None (Some j) a b = absurd (a b.0)
+there_once P v None None a b = refl
 
 -- What a search promises: the number, or its one error.
 pub search_once : (P : Type 0) (v : ℕ) (k : Reason) (r q : Result ℕ Reason) → OkIff r P v → IfErr r (λ j. j ≡ k) → OkIff q P v → IfErr q (λ j. j ≡ k) → r ≡ q

@@ -3,7 +3,7 @@ ghost use Rattle.std.specs.Prelude.{◌≡◌};
 ghost use Rattle.topology_rules.specs.Edit.{find_reply, retire, pull};
 ghost use Rattle.topology.specs.Reasons.{reply_of};
 
-use super::checking::check;
+use super::net::Net;
 use super::omitted::Omitted;
 use super::refusal::{Reason, Refusal};
 use super::writing::Part;
@@ -12,7 +12,7 @@ use super::writing::Part;
 pub fn find(d: &[u8], uid: u64) -> Result<u16, Refusal>
     ensures { reply_of result ≡ find_reply d.now uid }
 {
-    let net = check(d)?;
+    let net = Net::read(d)?;
     let x = net.find(uid)?;
     Ok(x as u16)
 }
@@ -22,7 +22,7 @@ pub fn retire(d: &[u8], uid: u64, out: &mut [u8]) -> Result<usize, Refusal>
     ensures answer { reply_of result ≡ (retire d.now uid out.old).reply }
     ensures output { out.new ≡ (retire d.now uid out.old).out }
 {
-    let net = check(d)?;
+    let net = Net::read(d)?;
     let x = net.find(uid)?;
     if net.switches() == 1 {
         return Err(Reason::OnlySwitch.at(0));
@@ -39,7 +39,7 @@ pub fn pull(d: &[u8], uid: u64, port: u64, out: &mut [u8]) -> Result<usize, Refu
     ensures answer { reply_of result ≡ (pull d.now uid port out.old).reply }
     ensures output { out.new ≡ (pull d.now uid port out.old).out }
 {
-    let net = check(d)?;
+    let net = Net::read(d)?;
     let x = net.find(uid)?;
     let c = net.records.cable_at(x, port)?;
     let part = Part {

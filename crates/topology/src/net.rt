@@ -1,13 +1,15 @@
 // An accepted description, read as a net: switches, and the channels over its cables.
-ghost use Rattle.std.specs.Prelude.{◌≡◌, OkIff, IfErr, ◌+◌, ◌*◌, ◌≤◌, ◌<◌};
+ghost use Rattle.std.specs.Prelude.{◌≡◌, OkIff, IfOk, IfErr, SomeIff, IfSome, Decides, ◌+◌, ◌*◌, ◌≤◌, ◌<◌};
 ghost use Rattle.topology_rules.specs.Format.{switch_count, cable_count};
+ghost use Rattle.topology_rules.specs.Check.{verdict};
 ghost use Rattle.topology_rules.specs.Accepted.{Accepted};
 ghost use Rattle.topology_rules.specs.Net.{net_of, target, back};
 ghost use Rattle.topology_rules.specs.Edit.{find};
+ghost use Rattle.topology.specs.Reasons.{verdict_of};
 ghost use Rattle.topology.specs.declared.refusal.Reason.TheVariants.{NoSuchUid};
 
 use super::records::Records;
-use super::refusal::Reason;
+use super::refusal::{Reason, Refusal};
 use std::marker::Model;
 
 /// An accepted description.
@@ -35,8 +37,19 @@ fn back(ch: usize) -> usize
     if ch % 2 == 0 { ch + 1 } else { ch - 1 }
 }
 
-// Switches and channels are asked for by index, as in `Records`. The clauses named `accepted` tell callers the invariant: they see only the bytes.
+// Any number may be asked for. The clauses named `accepted` tell callers the invariant: they see only the bytes.
 impl<'a> Net<'a> {
+    /// Any bytes: the net that they describe, or the first refusal of 1 to 12.
+    pub fn read(d: &'a [u8]) -> Result<Net<'a>, Refusal>
+        ensures answer { verdict_of result ≡ verdict d.now }
+        ensures bytes { IfOk result (λ n. n ≡ d.now) }
+    {
+        let records = Records::read(d)?;
+        records.check_switches()?;
+        records.check_cables()?;
+        Ok(Net { records })
+    }
+
     /// How many switches there are.
     pub fn switches(&self) -> usize
         ensures count { (result ≡ switch_count self.now) × (result ≤ 64) }
@@ -53,38 +66,57 @@ impl<'a> Net<'a> {
         2 * self.records.cables()
     }
 
-    /// The UID of a switch.
-    pub fn uid(&self, s: usize) -> u64
-        requires { s < switch_count self.now }
-        ensures { result ≡ (net_of self.now).uid s }
-    {
-        self.records.uid(s)
-    }
-
-    /// The switch that a channel leaves.
-    pub fn source(&self, ch: usize) -> usize
-        requires { ch < 2 * cable_count self.now }
-        ensures switch { (result ≡ (net_of self.now).source ch) × (result < switch_count self.now) }
+    // Whether there is such a channel.
+    fn has_channel(&self, ch: usize) -> bool
+        ensures there { Decides result (ch < 2 * cable_count self.now) }
         ensures accepted { Accepted self.now }
     {
-        self.records.end(ch).switch as usize
+        ch < self.channels()
     }
 
-    /// The switch that a channel leads to.
-    pub fn target(&self, ch: usize) -> usize
-        requires { ch < 2 * cable_count self.now }
-        ensures switch { (result ≡ target (net_of self.now) ch) × (result < switch_count self.now) }
+    /// The UID of a switch, where there is such a one.
+    pub fn uid(&self, s: usize) -> Option<u64>
+        ensures { SomeIff result (s < switch_count self.now) ((net_of self.now).uid s) }
+    {
+        if self.switches() <= s {
+            return None;
+        }
+        Some(self.records.uid(s))
+    }
+
+    /// The switch that a channel leaves, where there is such a channel.
+    pub fn source(&self, ch: usize) -> Option<usize>
+        ensures switch { SomeIff result (ch < 2 * cable_count self.now) ((net_of self.now).source ch) }
+        ensures there { IfSome result (λ s. s < switch_count self.now) }
         ensures accepted { Accepted self.now }
     {
-        self.records.end(back(ch)).switch as usize
+        if !self.has_channel(ch) {
+            return None;
+        }
+        Some(self.records.end(ch).switch as usize)
     }
 
-    /// The port that a channel leaves by.
-    pub fn port(&self, ch: usize) -> usize
-        requires { ch < 2 * cable_count self.now }
-        ensures { (result ≡ (net_of self.now).out_port ch) × (result ≤ 12) }
+    /// The switch that a channel leads to, where there is such a channel.
+    pub fn target(&self, ch: usize) -> Option<usize>
+        ensures switch { SomeIff result (ch < 2 * cable_count self.now) (target (net_of self.now) ch) }
+        ensures there { IfSome result (λ s. s < switch_count self.now) }
+        ensures accepted { Accepted self.now }
     {
-        self.records.end(ch).port as usize
+        if !self.has_channel(ch) {
+            return None;
+        }
+        Some(self.records.end(back(ch)).switch as usize)
+    }
+
+    /// The port that a channel leaves by, where there is such a channel.
+    pub fn port(&self, ch: usize) -> Option<usize>
+        ensures port { SomeIff result (ch < 2 * cable_count self.now) ((net_of self.now).out_port ch) }
+        ensures of_a_cable { IfSome result (λ p. p ≤ 12) }
+    {
+        if !self.has_channel(ch) {
+            return None;
+        }
+        Some(self.records.end(ch).port as usize)
     }
 
     /// The switch with that UID, all 48 bits compared, or 13.
@@ -93,7 +125,7 @@ impl<'a> Net<'a> {
         ensures missing { IfErr result (λ r. r ≡ NoSuchUid) }
     {
         (0..self.switches())
-            .find(|&s| self.uid(s) == uid)
+            .find(|&s| self.records.uid(s) == uid)
             .ok_or(Reason::NoSuchUid)
     }
 }

@@ -3,6 +3,7 @@ use Rattle.std.proofs.Common.{◌+◌, ◌-◌, arith}
 use Rattle.topology_rules.specs.Net.{net_of}
 use Rattle.planner_rules.specs.Printed.{switch_line}
 use Rattle.planner.proofs.Following.{run_begun, run_room, run_next}
+use Rattle.planner.proofs.Holders.{held_at}
 use Rattle.planner.proofs.Plans.{number_held}
 use Rattle.planner.proofs.printing.switch_lines.Goals as goal
 
@@ -11,8 +12,11 @@ loop-k-init c = run_begun (switch_line (net_of c.args.tree.now)) 1 _
 
 pub switch_line-requires : goal.switch_line-requires
 switch_line-requires c =
-    let l = c.loop-k in (
-      number_held _ c.switches-k-end.ensures.accepted l.k (omega arith) (omega arith),
+    let l = c.loop-k in
+    let ok = c.switches-k-end.ensures.accepted in
+    let (there, same) = held_at _ ok _ c.holders-holder.ensures l.k (omega arith) (number_held _ ok l.k (omega arith) (omega arith)) in (
+      there,
+      same,
       run_room (switch_line (net_of c.args.tree.now)) 1 _ (l.k - 1) l.k (omega arith) l.invariant _ (omega arith) c.requires,
     )
 

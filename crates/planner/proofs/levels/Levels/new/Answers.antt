@@ -1,9 +1,7 @@
 -- Each round settles the switches one level further; the last is one after which none has the level just given.
-use Rattle.std.proofs.Common.{arith, rules, ap, ◌∙◌, ◌≡◌, ℕ, ◌<◌, Some, None, slice_index, slice_index_or, unwrap_or}
-use Rattle.topology_rules.specs.Format.{switch_count}
+use Rattle.std.proofs.Common.{arith, None}
 use Rattle.topology_rules.specs.Net.{net_of}
 use Rattle.topology_rules.proofs.Soundness.{well_formed}
-use Rattle.planner_rules.specs.Tree.{level as level_of}
 use Rattle.planner.proofs.Settling.{none_has, settled_start, settled_next, settled_done, settled_last}
 use Rattle.planner.proofs.levels.Levels.new.Goals as goal
 use Rattle.planner.proofs.levels.Levels.new.Goals.{else-loop-k-test, then-loop-k-test+then-not-contains}
@@ -18,17 +16,14 @@ loop-k-preserved c = settled_next _ (well_formed _ c.switches-k-end.ensures.acce
 
 pub invariant_of-result : goal.invariant_of-result
 unfolding net_of
-invariant_of-result c = (
-  omega arith,
-  λ i h.
-      let wf = well_formed c.args.net.now c.switches-k-end.ensures.accepted in
-      let all : (j : ℕ) → j < switch_count c.args.net.now → slice_index_or c.loop-k.level j None ≡ Some (level_of (net_of c.args.net.now) j) =
-      elim c.loop-k-test.branch [
+invariant_of-result c =
+    let wf = well_formed c.args.net.now c.switches-k-end.ensures.accepted in
+    record {
+      whole = c.loop-k.invariant.whole;
+      few = omega arith;
+      each = elim c.loop-k-test.branch [
         | else-loop-k-test w ↦ settled_last _ wf _ _ c.loop-k.invariant (omega arith)
         | then-loop-k-test+then-not-contains w ↦ settled_done _ wf _ _ c.loop-k.invariant
             (λ j l. none_has _ _ j (w.if-not-contains.ensures.cases j None (omega arith) (omega (arith, c.loop-k.invariant.whole))))
-      ] in
-      let m = (c.map-level.ensures.items.at i None 0 (omega arith)).2.met in
-      let e : slice_index c.map-level.result i ≡ unwrap_or (slice_index_or c.loop-k.level i None) 0 = search rules in
-      e ∙ ap (λ o. unwrap_or o 0) (all i h),
-)
+      ];
+    }

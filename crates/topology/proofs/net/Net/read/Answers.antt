@@ -1,6 +1,6 @@
 -- Where no record is refused, the description is accepted.
 use Rattle.topology.proofs.Headings.{none_refused}
-use Rattle.topology.proofs.checking.check.Goals as goal
+use Rattle.topology.proofs.net.Net.read.Goals as goal
 
 pub invariant_of-result : goal.invariant_of-result
 invariant_of-result c =
