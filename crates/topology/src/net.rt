@@ -1,5 +1,5 @@
 // An accepted description, read as a net: switches, and the channels over its cables.
-ghost use Rattle.std.specs.Prelude.{◌≡◌, OkIff, IfOk, IfErr, SomeIff, IfSome, Decides, ◌+◌, ◌*◌, ◌≤◌, ◌<◌};
+ghost use Rattle.std.specs.Prelude.{◌≡◌, OkIff, IfOk, IfErr, SomeIff, IfSome, nat_lt, ◌+◌, ◌*◌, ◌≤◌, ◌<◌};
 ghost use Rattle.topology_rules.specs.Format.{switch_count, cable_count};
 ghost use Rattle.topology_rules.specs.Check.{verdict};
 ghost use Rattle.topology_rules.specs.Accepted.{Accepted};
@@ -68,7 +68,7 @@ impl<'a> Net<'a> {
 
     // Whether there is such a channel.
     fn has_channel(&self, ch: usize) -> bool
-        ensures there { Decides result (ch < 2 * cable_count self.now) }
+        ensures there { result ≡ nat_lt ch (2 * cable_count self.now) }
         ensures accepted { Accepted self.now }
     {
         ch < self.channels()

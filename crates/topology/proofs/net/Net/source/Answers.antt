@@ -1,9 +1,10 @@
-use Rattle.std.proofs.Common.{arith, ap}
+use Rattle.std.proofs.Common.{ap, sym, ◌∙◌}
+use borrow.Author.Tests.{true-ltb}
 use Rattle.topology.proofs.Described.{source_is}
 use Rattle.topology.proofs.net.Net.source.Goals as goal
 
-pub returns-clause-switch : goal.returns-clause-switch
-returns-clause-switch c = (omega arith, (source_is _ _ c.self.view_is c.self.invariant c.args.ch (omega arith) (ap (λ e. e.switch) c.end.ensures)).0)
-
-pub returns-clause-there : goal.returns-clause-there
-returns-clause-there c = (source_is _ _ c.self.view_is c.self.invariant c.args.ch (omega arith) (ap (λ e. e.switch) c.end.ensures)).1
+pub returns : goal.returns
+returns c =
+    let there = true-ltb _ _ (sym c.if-not-has_channel.false ∙ c.has_channel.ensures.there) in
+    let s = source_is _ _ c.self.view_is c.self.invariant c.args.ch there (ap (λ e. e.switch) c.end.ensures) in
+    record { switch = (there, s.0); there = s.1; accepted = c.has_channel.ensures.accepted }
